@@ -14,13 +14,13 @@ use Rattle.dg_parity.specs.Arrays.{AreKept, IsGroupOf, NoneBack, Steps, faults_o
 use Rattle.dg_parity.specs.Blanks.{IsForeign, LeavesOthers}
 use Rattle.dg_parity.specs.Exclusive.{with_at}
 use Rattle.dg_parity.specs.Stripes.{made_up, spot_of}
-use Rattle.dg_parity.specs.Groups.{disk_number, disk_in, header_in, is_lost, is_out, is_sure, length_of, AllTold, IsStill, LeavesGroup, MostCalls}
+use Rattle.dg_parity.specs.Groups.{disk_number, disk_in, header_in, is_lost, is_out, is_sure, length_of, AllTold, IsNumbered, IsStill, LeavesGroup, MostCalls}
 use Rattle.dg_parity.specs.Headers.{header_bytes}
 use Rattle.dg_parity.specs.Kept.{all_told, bytes_in, made_by, IsKept}
 use Rattle.dg_parity.specs.declared.groups.Group.{Group}
 use Rattle.dg_parity.proofs.BlankLemmas.{others-none, others-of}
 use Rattle.dg_parity.proofs.ExclusiveLemmas.{xor-same}
-use Rattle.dg_parity.proofs.GroupLemmas.{head-same, room-same, same-self, told-at}
+use Rattle.dg_parity.proofs.GroupLemmas.{head-same, page-same, room-same, same-self, told-at}
 use Rattle.dg_parity.proofs.KeptLemmas.{in-made, out-made, told-each, with-pointwise}
 use Rattle.dg_parity.proofs.KeptSteps.{both-true, each-told, told-if}
 use Rattle.dg_parity.proofs.MemberLemmas.{member-same}
@@ -31,6 +31,7 @@ pub record Turns {S : Type 0} (rack : Ghosts S) (old new : Group) (before now : 
   pub number : new.number ≡ old.number
   pub disks : new.disks ≡ old.disks
   pub told : new.told ≡ true → old.told ≡ true
+  pub telling : old.told ≡ true → is_lost new ≡ false → new.told ≡ true
   pub sure : is_sure new ≡ is_sure old
   pub kept : IsKept rack new now
   pub bare : is_lost new ≡ true → new.told ≡ true → new.length ≡ 0
@@ -104,10 +105,12 @@ module _ {S : Type 0} (rack : Ghosts S) (a g : Group) (before now : S) (ne : a.n
     ready = λ alive.
         let ready = kept.ready alive in
         record {
+          first = ready.first;
           stands = λ j lt in0. leaves.others_stand (disk_number g.number j) (foreign a g j ne lt) (ready.stands j lt in0);
           room = λ j lt in0. room-same (length_of g) _ _ (same-disk j lt) (ready.room j lt in0);
           heads = λ noted j lt in0. head-same _ _ (header_bytes (header_in g j)) (same-disk j lt) (ready.heads noted j lt in0);
         };
+    numbers = λ alive j lt in0. page-same (IsNumbered g j) _ _ (same-disk j lt) (kept.numbers alive j lt in0);
     even = λ alive all x range.
         xor-same (λ j. made_by rack g now j x) (λ j. made_by rack g before j x) g.disks (λ j lt. same-made all j x lt) ∙ kept.even alive (told-before all) x range;
     clear = λ alive all b behind range. same-made all (spot_of g.disks b).disk (spot_of g.disks b).place (disk-below g.disks b g.least) ∙ kept.clear alive (told-before all) b behind range;
@@ -380,18 +383,19 @@ steps-none rack q groups now kept = record {
 -- ---- what the calls on a group say
 
 turns-same : {S : Type 0} (rack : Ghosts S) (s : ℕ) (group : Group) (now : S) → IsGroupOf rack s group now → Turns rack group group now now
-turns-same rack s group now of = record { number = refl; disks = refl; told = λ h. h; sure = refl; kept = of.kept; bare = of.bare; leaves = others-none rack group now }
+turns-same rack s group now of = record { number = refl; disks = refl; told = λ h. h; telling = λ h alive. h; sure = refl; kept = of.kept; bare = of.bare; leaves = others-none rack group now }
 
 -- a read or a write: a lost group isn't called
 module _ {S : Type 0} (rack : Ghosts S) (s : ℕ) (a b : Group) (before now : S) (of : IsGroupOf rack s a before) (kept : IsKept rack b now)
     (leaves : is_lost a ≡ false → LeavesGroup rack a b before now) (idle : is_lost a ≡ true → (b ≡ a) × (now ≡ before)) where
-  pub served-turns : (is_lost a ≡ false → is_lost b ≡ true → b.told ≡ false) → Turns rack a b before now
-  served-turns silent = elim (cases_Bool (is_lost a)) [
+  pub served-turns : (is_lost a ≡ false → is_lost b ≡ true → b.told ≡ false) → (a.told ≡ true → is_lost b ≡ false → b.told ≡ true) → Turns rack a b before now
+  served-turns silent telling = elim (cases_Bool (is_lost a)) [
     | inl lost ↦ subst (λ (k : Group). Turns rack a k before now) (sym (idle lost).0) (subst (λ (k : S). Turns rack a a before k) (sym (idle lost).1) (turns-same rack s a before of))
     | inr alive ↦ record {
       number = (leaves alive).later.number;
       disks = (leaves alive).later.disks;
       told = (leaves alive).later.told;
+      telling = telling;
       sure = (leaves alive).later.sure;
       kept = kept;
       bare = λ lost told. absurd (false≢true (sym (silent alive lost) ∙ told));
@@ -413,11 +417,12 @@ module _ {S : Type 0} (rack : Ghosts S) (s : ℕ) (a b : Group) (before now : S)
 
 -- a call that says itself what it leaves of the group
 pub still-turns : {S : Type 0} (rack : Ghosts S) (s : ℕ) (a b : Group) (before now : S) → IsGroupOf rack s a before → IsStill a b → IsKept rack b now → LeavesOthers rack a before now
-    → (is_lost a ≡ true → (b ≡ a) × (now ≡ before)) → (is_lost a ≡ false → is_lost b ≡ true → b.told ≡ false) → Turns rack a b before now
-still-turns rack s a b before now of still kept leaves idle silent = record {
+    → (is_lost a ≡ true → (b ≡ a) × (now ≡ before)) → (is_lost a ≡ false → is_lost b ≡ true → b.told ≡ false) → (a.told ≡ true → is_lost b ≡ false → b.told ≡ true) → Turns rack a b before now
+still-turns rack s a b before now of still kept leaves idle silent telling = record {
   number = still.number;
   disks = still.disks;
   told = still.told;
+  telling = telling;
   sure = still.sure;
   kept = kept;
   bare = λ lost told. elim (cases_Bool (is_lost a)) [
@@ -429,11 +434,12 @@ still-turns rack s a b before now of still kept leaves idle silent = record {
 
 -- a group that was made anew
 pub anew-turns : {S : Type 0} (rack : Ghosts S) (a b : Group) (before now : S) → IsStill a b → IsKept rack b now → LeavesOthers rack a before now
-    → (is_lost b ≡ true → b.told ≡ false) → Turns rack a b before now
-anew-turns rack a b before now still kept leaves silent = record {
+    → (is_lost b ≡ true → b.told ≡ false) → (a.told ≡ true → is_lost b ≡ false → b.told ≡ true) → Turns rack a b before now
+anew-turns rack a b before now still kept leaves silent telling = record {
   number = still.number;
   disks = still.disks;
   told = still.told;
+  telling = telling;
   sure = still.sure;
   kept = kept;
   bare = λ lost told. absurd (false≢true (sym (silent lost) ∙ told));
@@ -457,16 +463,17 @@ module _ {S : Type 0} (rack : Ghosts S) (q n : ℕ) (old : List Group) (a b : Gr
   of-list = kept.each (q / 2) a at-list.was
 
   pub served-call : IsKept rack b now → (is_lost a ≡ false → LeavesGroup rack a b before now) → (is_lost a ≡ true → (b ≡ a) × (now ≡ before)) → (is_lost a ≡ false → is_lost b ≡ true → b.told ≡ false)
-      → IsServed rack q old (set old (q / 2) b) a b before now
-  served-call stands leaves idle silent = record {
-    call = record { even = even; kept = kept; sets = at-list; turns = served-turns rack (q / 2) a b before now of-list stands leaves idle silent };
+      → (a.told ≡ true → is_lost b ≡ false → b.told ≡ true) → IsServed rack q old (set old (q / 2) b) a b before now
+  served-call stands leaves idle silent telling = record {
+    call = record { even = even; kept = kept; sets = at-list; turns = served-turns rack (q / 2) a b before now of-list stands leaves idle silent telling };
     cause = served-cause rack (q / 2) a b before now of-list stands leaves idle;
     stays = served-stays rack (q / 2) a b before now of-list stands leaves idle;
   }
 
   pub still-call : IsStill a b → IsKept rack b now → LeavesOthers rack a before now → (is_lost a ≡ true → (b ≡ a) × (now ≡ before)) → (is_lost a ≡ false → is_lost b ≡ true → b.told ≡ false)
-      → IsCalled rack q old (set old (q / 2) b) a b before now
-  still-call still stands leaves idle silent = record { even = even; kept = kept; sets = at-list; turns = still-turns rack (q / 2) a b before now of-list still stands leaves idle silent }
+      → (a.told ≡ true → is_lost b ≡ false → b.told ≡ true) → IsCalled rack q old (set old (q / 2) b) a b before now
+  still-call still stands leaves idle silent telling = record { even = even; kept = kept; sets = at-list; turns = still-turns rack (q / 2) a b before now of-list still stands leaves idle silent telling }
 
-  pub anew-call : IsStill a b → IsKept rack b now → LeavesOthers rack a before now → (is_lost b ≡ true → b.told ≡ false) → IsCalled rack q old (set old (q / 2) b) a b before now
-  anew-call still stands leaves silent = record { even = even; kept = kept; sets = at-list; turns = anew-turns rack a b before now still stands leaves silent }
+  pub anew-call : IsStill a b → IsKept rack b now → LeavesOthers rack a before now → (is_lost b ≡ true → b.told ≡ false) → (a.told ≡ true → is_lost b ≡ false → b.told ≡ true)
+      → IsCalled rack q old (set old (q / 2) b) a b before now
+  anew-call still stands leaves silent telling = record { even = even; kept = kept; sets = at-list; turns = anew-turns rack a b before now still stands leaves silent telling }

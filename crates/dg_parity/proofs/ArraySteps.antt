@@ -235,6 +235,7 @@ module _ {S : Type 0} (rack : Ghosts S) (n : ℕ) (groups : List Group) (now : S
             number = h.number;
             kept = record {
               ready = λ alive. absurd (false≢true (sym alive ∙ h.lost));
+              numbers = λ alive. absurd (false≢true (sym alive ∙ h.lost));
               even = λ alive. absurd (false≢true (sym alive ∙ h.lost));
               clear = λ alive. absurd (false≢true (sym alive ∙ h.lost));
             };

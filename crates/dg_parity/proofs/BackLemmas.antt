@@ -1,10 +1,10 @@
 -- A group that was noted when it was left is there again after the next opening.
-use Rattle.std.proofs.Common.{◌≡◌, ℕ, ◌*◌, ◌<◌, inl, inr, true, false, List, length, refl, sym, ap, subst, ◌∙◌, arith}
+use Rattle.std.proofs.Common.{◌≡◌, ℕ, ◌*◌, ◌<◌, ◌≤◌, inl, inr, true, false, List, length, refl, sym, ap, subst, ◌∙◌, arith}
 use Rattle.std.specs.Prelude.{Option, None, Some, IfSome, IsSome, slice_get}
 use Rattle.std.proofs.lemmas.Bool.{cases_Bool, false≢true}
 use Rattle.dg_io.specs.Told.{Told, IsSame}
 use Rattle.dg_io.specs.declared.outside.Rack.{Ghosts}
-use Rattle.dg_parity.specs.Arrays.{DisksTell, Grouped, IsGroupOf, IsHeld, is_served, out_of, serves, size_of, width_of}
+use Rattle.dg_parity.specs.Arrays.{DisksTell, Grouped, IsGroupOf, IsHeld, is_served, out_of, serves, width_of}
 use Rattle.dg_parity.specs.Epochs.{IsCountable, IsLeft, IsReopened}
 use Rattle.dg_parity.specs.Groups.{disk_number, is_lost, is_out}
 use Rattle.dg_parity.specs.Openings.{IsFound, IsOpened, IsOpenedOr, LeavesRead}
@@ -12,7 +12,8 @@ use Rattle.dg_parity.specs.Reopens.{IsBack, OpensArray}
 use Rattle.dg_parity.specs.declared.groups.Group.{Group}
 use Rattle.dg_parity.specs.declared.parity_racks.ParityRack.TheVariants.{OfGroups}
 use Rattle.dg_parity.proofs.ArraySteps.{member-group, some-at}
-use Rattle.dg_parity.proofs.EpochLemmas.{finds-left, reopened}
+use Rattle.dg_parity.proofs.EpochLemmas.{finds-left, reopened, same-numbers}
+use Rattle.dg_parity.proofs.PartLemmas.{both-in}
 use Rattle.dg_parity.proofs.GroupLemmas.{same-then}
 use Rattle.dg_parity.proofs.JudgedLemmas.{opened-at, some-below}
 use Rattle.dg_parity.proofs.ReadsOnLemmas.{not-lost, out-is}
@@ -75,17 +76,47 @@ module _ {R : Type 0} (rack : Ghosts R) (old new : Grouped R) (before : R) (s : 
         | inl out ↦ absurd (false≢true (sym e ∙ ap (λ (o : Option Group). out_of o j) is ∙ out-is next j ∙ h.stays j out))
       ] in
       record {
-        width = old.width;
-        width_was = refl;
-        width_is = ap Some same;
+        width = new.width;
+        width_is = refl;
         there = there;
-        size = ap size_of (member-group new.groups s ∙ is) ∙ h.size ∙ sym (ap size_of (member-group old.groups s ∙ was));
         untouched = λ j lt e. subst (λ (k : ℕ). Told IsSame (rack.bytes old.rack (disk_number k j)) (rack.bytes before (disk_number k j))) of.number
-            (left.same j (subst (λ (n : ℕ). j < n) (sym wide) lt) (ins j e));
-        tell = subst (λ (n : ℕ). DisksTell rack new.rack n s) same tell;
+            (left.same j (subst (λ (n : ℕ). j < n) (sym disks) lt) (ins j e));
+        tell = tell;
         served = served;
         ins = λ j e. ap (λ (o : Option Group). out_of o j) was ∙ out-is group j ∙ ins j e;
       }
 
-  pub noted-back : IsBack rack s (OfGroups old) before (OfGroups new)
-  noted-back = let found = some-at new.groups s (omega (arith, few, opens.opens.count)) in back-at found.0 found.1
+  back-with : IsBack rack s (OfGroups old) before (OfGroups new)
+  back-with = let found = some-at new.groups s (omega (arith, few, opens.opens.count)) in back-at found.0 found.1
+
+-- one of its disks that were in is in, and has the width in its header
+module _ {R : Type 0} (rack : Ghosts R) (old new : Grouped R) (before : R) (s : ℕ) (group : Group) (held : IsHeld rack old.width old.groups old.rack) (was : slice_get old.groups s ≡ Some group)
+    (alive0 : is_lost group ≡ false) (left : IsLeft rack group old.rack before) (opens : OpensArray rack before new)
+    (leaves : LeavesRead rack (disk_number 0 0) (disk_number 16 0) before new.rack) (tell : DisksTell rack new.rack new.width s) (served : serves new.groups (2 * s) ≡ true) where
+  own : IsGroupOf rack s group old.rack
+  own = held.kept.each s group was
+
+  below : s < 16
+  below = omega (arith, group.number_fits, own.number)
+
+  width-at : (next : Group) → is_lost next ≡ false → IsOpenedOr rack new.rack (opens.opens.fronts s) new.width s next → new.width ≡ old.width
+  width-at next alive (inr none) = absurd (false≢true (sym alive ∙ none.1.lost))
+  width-at next alive (inl over) =
+      let least : 3 ≤ new.width = subst (λ (k : ℕ). 3 ≤ k) over.by.disks next.least in
+      let most : new.width ≤ 8 = subst (λ (k : ℕ). k ≤ 8) over.by.disks next.most in
+      let both = both-in group next alive0 alive in
+      let same : Told IsSame (rack.bytes old.rack (disk_number s both.0)) (rack.bytes new.rack (disk_number s both.0)) =
+      same-then _ _ _ (subst (λ (k : ℕ). Told IsSame (rack.bytes old.rack (disk_number k both.0)) (rack.bytes before (disk_number k both.0))) own.number
+      (left.same both.0 (omega (arith, both.1, group.least)) both.2)) (leaves.same (disk_number s both.0)) in
+      (same-numbers rack s new.width both.0 group next old.rack before new.rack (opens.opens.fronts s) own.number most (own.kept.numbers alive0)
+      (λ j lt. opens.opens.found s j below lt) over.by (omega (arith, both.1, group.least)) (omega (arith, both.1, least)) both.2 both.3 same (tell both.0 (omega (arith, both.1, least)))).0
+      ∙ sym (ap width_of was) ∙ held.widths s (some-below old.groups s group was)
+
+  same-width : new.width ≡ old.width
+  same-width =
+      let found = some-at new.groups s (omega (arith, below, opens.opens.count)) in
+      width-at found.0 (not-lost (is_lost found.0) (sym (ap is_served (member-group new.groups s ∙ found.1)) ∙ served))
+      (opened-at rack new.rack opens.opens.fronts new.width s new.groups found.0 opens.opens.opened found.1)
+
+  pub noted-back : group.noted ≡ true → IsCountable group → IsBack rack s (OfGroups old) before (OfGroups new)
+  noted-back noted range = back-with rack old new before s group held was noted alive0 range left opens leaves same-width tell served

@@ -13,7 +13,7 @@ use Rattle.dg_parity.specs.Stripes.{member_by, disk_length}
 use Rattle.dg_parity.specs.Groups.{disk_number, is_out, is_sure, is_lost, length_of, bytes_of, AllTold, IsReady, Holds, StandsFor, IsLater, IsAlikeBut, IsRestarted, LeavesGroup}
 use Rattle.dg_parity.specs.Kept.{all_told, bytes_in, IsKept}
 use Rattle.dg_parity.specs.declared.groups.Group.{Group}
-use Rattle.dg_parity.proofs.GroupLemmas.{same-then, same-self, rise-then, rose-later, rose-sooner, other-disk}
+use Rattle.dg_parity.proofs.GroupLemmas.{heads-numbered, same-then, same-self, rise-then, rose-later, rose-sooner, other-disk}
 use Rattle.dg_parity.proofs.KeptLemmas.{told-each, kept-of, stands-is}
 use Rattle.dg_parity.proofs.KeptSteps.{each-told, told-if, both-true}
 use Rattle.dg_parity.proofs.CallLemmas.{told-back}
@@ -179,6 +179,7 @@ pub blanked-ready : {S : Type 0} (rack : Ghosts S) (old new : Group) (s t : S) �
 blanked-ready rack old new s t h =
     let below : (j : ℕ) → j < new.disks → j < old.disks = λ j lt. subst (λ (n : ℕ). j < n) h.same.disks lt in
     record {
+      first = λ noted. absurd (false≢true (sym h.renewed ∙ noted));
       stands = λ j lt in0. subst (λ (k : ℕ). rack.stands t (disk_number k j) ≡ true) (sym h.same.number) (h.stands j (below j lt) in0);
       room = λ j lt in0. subst (λ (k : ℕ). IfSome (rack.bytes t (disk_number k j)) (λ all. length all ≡ length_of new)) (sym h.same.number)
           (subst (λ (n : ℕ). IfSome (rack.bytes t (disk_number old.number j)) (λ all. length all ≡ n))
@@ -214,6 +215,7 @@ pub record Anew {S : Type 0} (rack : Ghosts S) (size : ℕ) (old new : Group) (b
   pub number : new.number ≡ old.number
   pub disks : new.disks ≡ old.disks
   pub told : new.told ≡ true → old.told ≡ true
+  pub telling : old.told ≡ true → new.told ≡ true
   pub sure : is_sure new ≡ is_sure old
   pub size_is : new.length ≡ size
   pub ready : IsReady rack new now
@@ -234,14 +236,15 @@ others-named rack a b s t number disks h =
       steady_on = h.steady_on;
     }
 
-pub anew-of : {S : Type 0} (rack : Ghosts S) (size : ℕ) (old a b c : Group) (s t : S) → IsLater old a → IsRestarted a b → b.length ≡ size → IsBlanked rack b c s t b.disks → Anew rack size old c s t
-anew-of rack size old a b c s t later again is h =
+pub anew-of : {S : Type 0} (rack : Ghosts S) (size : ℕ) (old a b c : Group) (s t : S) → IsLater old a → a.told ≡ old.told → IsRestarted a b → b.length ≡ size → IsBlanked rack b c s t b.disks → Anew rack size old c s t
+anew-of rack size old a b c s t later same again is h =
     let number : b.number ≡ old.number = again.number ∙ later.number in
     let disks : b.disks ≡ old.disks = again.disks ∙ later.disks in
     record {
       number = h.same.number ∙ number;
       disks = h.same.disks ∙ disks;
       told = λ e. later.told (sym again.told ∙ sym h.same.told ∙ e);
+      telling = λ e. h.same.told ∙ again.told ∙ same ∙ e;
       sure = h.same.sure ∙ again.sure ∙ later.sure;
       size_is = h.same.size ∙ is;
       ready = blanked-ready rack b c s t h;
@@ -252,10 +255,10 @@ anew-of rack size old a b c s t later again is h =
     }
 
 -- and then its headers were written
-pub anew-kept : {S : Type 0} (rack : Ghosts S) (size : ℕ) (old mid new : Group) (s t u : S) → Anew rack size old mid s t → LeavesGroup rack mid new t u
+pub anew-kept : {S : Type 0} (rack : Ghosts S) (size : ℕ) (old mid new : Group) (s t u : S) → Anew rack size old mid s t → LeavesGroup rack mid new t u → (is_lost new ≡ false → new.noted ≡ true)
     → ((has : ℕ → ℕ → ℕ) → AllTold rack new u → Holds rack mid t has → Holds rack new u has) → IsKept rack new u
-anew-kept rack size old mid new s t u h leaves holds =
-    kept-of rack new u (replicate size 0) (λ in0. leaves.ready) (λ in0 all. stands-noted rack mid new t u leaves holds (replicate size 0) all h.stands)
+anew-kept rack size old mid new s t u h leaves noted holds =
+    kept-of rack new u (replicate size 0) (λ in0. leaves.ready) (λ in0. heads-numbered rack new u leaves.ready (noted in0)) (λ in0 all. stands-noted rack mid new t u leaves holds (replicate size 0) all h.stands)
 
 pub anew-told : {S : Type 0} (rack : Ghosts S) (size : ℕ) (old mid new : Group) (s t u : S) → 3 ≤ old.disks → is_lost new ≡ false → Anew rack size old mid s t → LeavesGroup rack mid new t u
     → ((has : ℕ → ℕ → ℕ) → AllTold rack new u → Holds rack mid t has → Holds rack new u has) → Told (IsZeros size) (bytes_in rack old s) (bytes_in rack new u)

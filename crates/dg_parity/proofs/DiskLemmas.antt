@@ -19,7 +19,7 @@ use Rattle.dg_parity.specs.declared.groups.Group.{Group}
 use Rattle.dg_parity.proofs.ArrayLemmas.{IsCalled, SetsAt, Turns, cause-at, faults-alike, faults-in, lt-of, lt-true, new-each, others, rise-at, tells, told-own, width-at}
 use Rattle.dg_parity.proofs.KeptSteps.{both-true, told-none}
 use Rattle.dg_parity.proofs.GroupLemmas.{same-self}
-use Rattle.dg_parity.proofs.PartLemmas.{count-step}
+use Rattle.dg_parity.proofs.MarkLemmas.{count-step}
 
 -- ---- how many disks are out
 
@@ -171,11 +171,12 @@ idle-told {S = S} rack a b before now same = subst (λ (k : Group). Told IsSame 
 
 pub drop-turns : {S : Type 0} (rack : Ghosts S) (s j : ℕ) (a b : Group) (before now : S) (answer : DropAnswer) → IsGroupOf rack s a before → IsStill a b → IsKept rack b now
     → LeavesOthers rack a before now → (is_out a j ≡ true → (b ≡ a) × (now ≡ before)) → ((answer ≡ Already) ↔ (is_out a j ≡ true)) → ((lost : Bool) → answer ≡ Dropped lost → lost ≡ is_lost b)
-    → answer ≢ Plain → (answer ≡ Dropped true → b.told ≡ false) → Turns rack a b before now
-drop-turns rack s j a b before now answer of still kept leaves idle already lost parity silent = record {
+    → answer ≢ Plain → (answer ≡ Dropped true → b.told ≡ false) → (a.told ≡ true → is_lost b ≡ false → b.told ≡ true) → Turns rack a b before now
+drop-turns rack s j a b before now answer of still kept leaves idle already lost parity silent telling = record {
   number = still.number;
   disks = still.disks;
   told = still.told;
+  telling = telling;
   sure = still.sure;
   kept = kept;
   bare = λ gone told. elim (cases_Bool (is_out a j)) [
@@ -206,3 +207,11 @@ mend-told rack a b before now idle silent same = elim (cases_Bool (is_lost b)) [
     | inr before0 ↦ told-none rack a b before now IsSame (silent before0 gone)
   ]
 ]
+
+-- the headers of a group that said which disks are out say so
+pub drop-noted : {S : Type 0} (j : ℕ) (a b : Group) (before now : S) (answer : DropAnswer) → (is_out a j ≡ true → (b ≡ a) × (now ≡ before)) → ((answer ≡ Already) ↔ (is_out a j ≡ true))
+    → ((lost : Bool) → answer ≡ Dropped lost → lost ≡ is_lost b) → answer ≢ Plain → (answer ≡ Dropped false → b.noted ≡ true) → a.noted ≡ true → is_lost b ≡ false → b.noted ≡ true
+drop-noted j a b before now Plain idle already lost parity dropped noted alive = absurd (parity refl)
+drop-noted j a b before now Already idle already lost parity dropped noted alive = ap (λ (k : Group). k.noted) (idle (already.0 refl)).0 ∙ noted
+drop-noted j a b before now (Dropped true) idle already lost parity dropped noted alive = absurd (false≢true (sym alive ∙ sym (lost true refl)))
+drop-noted j a b before now (Dropped false) idle already lost parity dropped noted alive = dropped refl

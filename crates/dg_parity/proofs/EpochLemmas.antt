@@ -1,6 +1,6 @@
 -- What a group left on its disks is what the next opening makes of them.
-use Rattle.std.proofs.Common.{◌≡◌, ◌≢◌, ◌⊎◌, ℕ, zero, suc, ◌+◌, ◌*◌, ◌/◌, ◌%◌, ◌<◌, ◌≤◌, ◌^◌, inl, inr, Bool, true, false, List, length, take, refl, sym, ap, subst, ◌∙◌, arith}
-use Rattle.std.specs.Prelude.{Option, None, Some, IfSome, IsSome, slice_index, ◌==◌, ◌&&◌, if◌then◌else◌}
+use Rattle.std.proofs.Common.{◌≡◌, ◌≢◌, ◌⊎◌, ℕ, zero, suc, ◌<◌, ◌≤◌, inl, inr, Bool, true, false, List, length, take, refl, sym, ap, subst, ◌∙◌, arith}
+use Rattle.std.specs.Prelude.{Option, None, Some, IfSome, IsSome, slice_index, ◌&&◌, if◌then◌else◌}
 use Rattle.std.proofs.lemmas.Bool.{cases_lt, cases_Bool, false≢true}
 use Rattle.dg_model.specs.Causes.{Rose}
 use Rattle.dg_io.specs.Told.{Told, IsSame}
@@ -8,74 +8,18 @@ use Rattle.dg_io.specs.declared.outside.Rack.{Ghosts}
 use Rattle.dg_parity.specs.Epochs.{IsCountable, IsLeft, IsReopened}
 use Rattle.dg_parity.specs.Headers.{header_bytes, marks_of}
 use Rattle.dg_parity.specs.Stripes.{member_by, InStripes, IsClear, IsEven}
-use Rattle.dg_parity.specs.Groups.{disk_number, disk_in, is_out, is_lost, is_sure, length_of, bytes_of, AllTold, header_in, Holds, IsReady, StandsFor}
+use Rattle.dg_parity.specs.Groups.{disk_number, disk_in, is_out, is_lost, is_sure, length_of, bytes_of, AllTold, AreNumbered, IsNumbered, header_in, Holds, IsReady, StandsFor}
 use Rattle.dg_parity.specs.Kept.{all_told, bytes_in, made_by, IsKept}
 use Rattle.dg_parity.specs.Openings.{HasFront, IsFront, IsFound, IsIn, IsOpened, is_marked}
 use Rattle.dg_parity.specs.declared.groups.Group.{Group}
 use Rattle.dg_parity.specs.declared.headers.Header.{Header}
-use Rattle.dg_parity.proofs.GroupLemmas.{told-at}
+use Rattle.dg_parity.proofs.GroupLemmas.{numbers-along, told-at}
 use Rattle.dg_parity.proofs.KeptLemmas.{kept-of, kept-stands, stands-is}
 use Rattle.dg_parity.proofs.KeptSteps.{each-told}
 use Rattle.dg_parity.proofs.OpenedLemmas.{some-not, front-there}
-use Rattle.dg_parity.proofs.PageLemmas.{own_numbers, HasNumbers, same_fields}
+use Rattle.dg_parity.proofs.PageLemmas.{own_numbers, read_back, HasNumbers, same_fields}
+use Rattle.dg_parity.proofs.MarkLemmas.{marked, marks-below}
 use Rattle.dg_parity.proofs.PartLemmas.{others-in}
-
--- ---- a byte of marks
-
-abbrev pub number : Bool → ℕ
-number true = 1
-number false = 0
-
-weight : (b : Bool) (p : ℕ) → (if b then p else 0) ≡ p * number b
-weight true p = omega arith
-weight false p = omega arith
-
-small : (b : Bool) → number b ≤ 1
-small true = omega arith
-small false = omega arith
-
-is-one : (b : Bool) → (number b == 1) ≡ b
-is-one true = refl
-is-one false = refl
-
-pub bit-of : (m v j : ℕ) (b : Bool) → (m / 2 ^ j) % 2 ≡ v → v ≡ number b → is_marked m j ≡ b
-bit-of m v j b is at = ap (λ (k : ℕ). k == 1) (is ∙ at) ∙ is-one b
-
-marks-sum : (out : ℕ → Bool) → marks_of out 8
-    ≡ number (out 0) + 2 * number (out 1) + 4 * number (out 2) + 8 * number (out 3) + 16 * number (out 4) + 32 * number (out 5) + 64 * number (out 6) + 128 * number (out 7)
-marks-sum out =
-    let all : marks_of out 8
-    ≡ 0 + (if out 0 then 1 else 0) + (if out 1 then 2 else 0) + (if out 2 then 4 else 0) + (if out 3 then 8 else 0) + (if out 4 then 16 else 0) + (if out 5 then 32 else 0)
-    + (if out 6 then 64 else 0) + (if out 7 then 128 else 0) = refl in
-    omega (arith, all, weight (out 0) 1, weight (out 1) 2, weight (out 2) 4, weight (out 3) 8, weight (out 4) 16, weight (out 5) 32, weight (out 6) 64, weight (out 7) 128)
-
-bits : (m a b c d e f g h : ℕ) → m ≡ a + 2 * b + 4 * c + 8 * d + 16 * e + 32 * f + 64 * g + 128 * h → a ≤ 1 → b ≤ 1 → c ≤ 1 → d ≤ 1 → e ≤ 1 → f ≤ 1 → g ≤ 1 → h ≤ 1
-    → (m / 1 % 2 ≡ a) × (m / 2 % 2 ≡ b) × (m / 4 % 2 ≡ c) × (m / 8 % 2 ≡ d) × (m / 16 % 2 ≡ e) × (m / 32 % 2 ≡ f) × (m / 64 % 2 ≡ g) × (m / 128 % 2 ≡ h)
-bits m a b c d e f g h is a1 b1 c1 d1 e1 f1 g1 h1 =
-    (omega (arith, is), omega (arith, is), omega (arith, is), omega (arith, is), omega (arith, is), omega (arith, is), omega (arith, is), omega (arith, is))
-
--- the marks of a header are the disks that are out
-pub marked : (out : ℕ → Bool) (j : ℕ) → j < 8 → is_marked (marks_of out 8) j ≡ out j
-marked out j lt =
-    let all = bits (marks_of out 8) (number (out 0)) (number (out 1)) (number (out 2)) (number (out 3)) (number (out 4)) (number (out 5)) (number (out 6)) (number (out 7)) (marks-sum out)
-    (small (out 0)) (small (out 1)) (small (out 2)) (small (out 3)) (small (out 4)) (small (out 5)) (small (out 6)) (small (out 7)) in
-    at j lt all
-  where
-    at : (j : ℕ) → j < 8 → ((marks_of out 8 / 1 % 2 ≡ number (out 0)) × (marks_of out 8 / 2 % 2 ≡ number (out 1)) × (marks_of out 8 / 4 % 2 ≡ number (out 2)) × (marks_of out 8 / 8 % 2 ≡ number (out 3))
-        × (marks_of out 8 / 16 % 2 ≡ number (out 4)) × (marks_of out 8 / 32 % 2 ≡ number (out 5)) × (marks_of out 8 / 64 % 2 ≡ number (out 6)) × (marks_of out 8 / 128 % 2 ≡ number (out 7)))
-        → is_marked (marks_of out 8) j ≡ out j
-    at zero lt all = bit-of (marks_of out 8) (number (out 0)) 0 (out 0) all.0 refl
-    at (suc zero) lt all = bit-of (marks_of out 8) (number (out 1)) 1 (out 1) all.1 refl
-    at (suc (suc zero)) lt all = bit-of (marks_of out 8) (number (out 2)) 2 (out 2) all.2 refl
-    at (suc (suc (suc zero))) lt all = bit-of (marks_of out 8) (number (out 3)) 3 (out 3) all.3 refl
-    at (suc (suc (suc (suc zero)))) lt all = bit-of (marks_of out 8) (number (out 4)) 4 (out 4) all.4 refl
-    at (suc (suc (suc (suc (suc zero))))) lt all = bit-of (marks_of out 8) (number (out 5)) 5 (out 5) all.5 refl
-    at (suc (suc (suc (suc (suc (suc zero)))))) lt all = bit-of (marks_of out 8) (number (out 6)) 6 (out 6) all.6 refl
-    at (suc (suc (suc (suc (suc (suc (suc zero))))))) lt all = bit-of (marks_of out 8) (number (out 7)) 7 (out 7) all.7 refl
-    at (suc (suc (suc (suc (suc (suc (suc (suc k)))))))) lt all = absurd (omega (arith, lt))
-
-marks-below : (out : ℕ → Bool) → marks_of out 8 < 2 ^ 8
-marks-below out = omega (arith, marks-sum out, small (out 0), small (out 1), small (out 2), small (out 3), small (out 4), small (out 5), small (out 6), small (out 7))
 
 -- ---- what an opening takes from bytes is one header at most
 
@@ -89,19 +33,19 @@ front-once s j all (Some k) h own has =
     (sym a.epoch ∙ b.epoch) (sym a.group ∙ b.group) (sym a.place ∙ b.place) (sym a.disks ∙ b.disks) (sym a.marks ∙ b.marks) (sym a.size ∙ b.size))
 
 -- the header that a group has noted on disk j counts
-own-front : (group : Group) (j : ℕ) (all : List ℕ) → IsCountable group → group.number < 16 → 3 ≤ group.disks → group.disks ≤ 8 → j < group.disks
+own-front : (group : Group) (j : ℕ) (all : List ℕ) → 1 ≤ group.epoch → IsCountable group → group.number < 16 → 3 ≤ group.disks → group.disks ≤ 8 → j < group.disks
     → take 512 all ≡ header_bytes (header_in group j) → length all ≡ length_of group → HasFront group.number j all (header_in group j)
-own-front group j all range few least most lt bytes size = record {
+own-front group j all first range few least most lt bytes size = record {
   bytes = bytes;
   fits = record {
-    epochs = omega (arith, range.last);
+    epochs = group.epoch_fits;
     groups = omega (arith, few);
     places = omega (arith, lt, most);
     widths = omega (arith, most);
     marked = marks-below (is_out group);
-    sizes = range.sized;
+    sizes = group.length_fits;
   };
-  counted = record { group = refl; place = refl; least = least; most = most; first = range.first; last = range.last; size = size };
+  counted = record { group = refl; place = refl; least = least; most = most; first = first; last = range; size = size };
 }
 
 -- what the opening found on a disk that was in
@@ -119,7 +63,7 @@ head-front rack group left j range ready noted lt in0 =
       both : (o : Option (List ℕ)) → IfSome o (λ all. length all ≡ length_of group) → IfSome o (λ all. take 512 all ≡ header_bytes (header_in group j))
           → IfSome o (λ all. HasFront group.number j all (header_in group j))
       both None a b = tt
-      both (Some all) a b = own-front group j all range group.number_fits group.least group.most lt b a
+      both (Some all) a b = own-front group j all (ready.first noted) range group.number_fits group.least group.most lt b a
 
 -- what the opening found on a disk that was out
 past-is : (s j n e : ℕ) (o : Option (List ℕ)) (h : Header) → IsSome o → IfSome o (λ all. (k : Header) → HasFront s j all k → k.disks ≡ n → k.epoch < e)
@@ -292,6 +236,30 @@ reads-on rack group next left before now alive kept told is h ready alive2 same 
     let bytes : List ℕ = member_by group.disks group.length (made_by rack group left) in
     let stands : StandsFor rack next now bytes = stands-again rack group next left now bytes h.number h.disks h.size (λ j lt in0. in-left rack group next left before now j is h lt in0)
     (kept-stands rack group left alive kept told) in (
-      kept-of rack next now bytes (λ e. ready) (λ e all2. stands),
+      kept-of rack next now bytes (λ e. ready)
+          (λ e. numbers-along rack group next left now h.number h.disks h.size (omega (arith, h.epoch)) (λ j lt in0. let was = (in-left rack group next left before now j is h lt in0).0 in (was, is.same j lt was)) (kept.numbers alive))
+          (λ e all2. stands),
       λ sure. tells-again rack group next left now alive2 same told (sure, λ j lt. subst (λ (s : ℕ). IsSome (rack.bytes now (disk_number s j))) (sym h.number) (is.told j (subst (λ (n : ℕ). j < n) h.disks lt))) stands,
     )
+
+-- ---- the width and the length
+
+some-numbers : (group : Group) (s j : ℕ) (o p : Option (List ℕ)) (h : Header) → IfSome o (λ all. IsNumbered group j (take 512 all)) → Told IsSame o p → IsSome p
+    → IfSome p (λ all. HasFront s j all h) → (h.disks ≡ group.disks) × (h.size ≡ group.length)
+some-numbers group s j o None h own same told has = absurd (false≢true told)
+some-numbers group s j None (Some y) h own same told has = absurd same
+some-numbers group s j (Some x) (Some y) h own same told has =
+    let is : h ≡ own.header = read_back (header_bytes h) h own.header (own_numbers h has.fits) own.fits (sym has.bytes ∙ ap (take 512) same ∙ own.bytes) in
+    (ap (λ (k : Header). k.disks) is ∙ own.width, ap (λ (k : Header). k.size) is ∙ own.size)
+
+-- A disk that was in and has the bytes that it had has a header with the group's width and length, and so has the group that an opening makes where this
+-- disk is in.
+pub same-numbers : {S : Type 0} (rack : Ghosts S) (s n p : ℕ) (group next : Group) (left before now : S) (fronts : ℕ → Option Header) → group.number ≡ s → n ≤ 8 → AreNumbered rack group left
+    → ((j : ℕ) → j < 8 → IsFound rack before now s j (fronts j)) → IsOpened fronts n s next → p < group.disks → p < n → is_out group p ≡ false → is_out next p ≡ false
+    → Told IsSame (rack.bytes left (disk_number s p)) (rack.bytes now (disk_number s p)) → IsSome (rack.bytes now (disk_number s p)) → (n ≡ group.disks) × (next.length ≡ group.length)
+same-numbers rack s n p group next left before now fronts number most own found o ltg lt in0 in1 same told =
+    let i = (o.ins p lt).0 in1 in
+    let h = some-numbers group s p (rack.bytes left (disk_number s p)) (rack.bytes now (disk_number s p)) i.header
+    (subst (λ (k : ℕ). IfSome (rack.bytes left (disk_number k p)) (λ all. IsNumbered group p (take 512 all))) number (own p ltg in0)) same told
+    (front-there rack before now s p (fronts p) i.header i.has.found (found p (omega (arith, lt, most)))) in
+    (sym i.has.width ∙ h.0, o.size ∙ sym i.size ∙ h.1)

@@ -18,7 +18,8 @@ use Rattle.dg_parity.specs.declared.groups.Group.{Group}
 use Rattle.dg_parity.proofs.BlankLemmas.{no-xor, zero-at, others-none, others-then, others-named, others-of}
 use Rattle.dg_parity.proofs.CallLemmas.{told-back}
 use Rattle.dg_parity.proofs.ExclusiveLemmas.{xor-same}
-use Rattle.dg_parity.proofs.GroupLemmas.{in-before, later-same, later-then, other-disk, rose-later, rose-sooner, same-self, same-then, told-at}
+use Rattle.dg_parity.proofs.MarkLemmas.{alive-again}
+use Rattle.dg_parity.proofs.GroupLemmas.{heads-numbered, in-before, later-same, later-then, other-disk, rose-later, rose-sooner, same-self, same-then, told-at}
 use Rattle.dg_parity.proofs.HoldLemmas.{length-told}
 use Rattle.dg_parity.proofs.KeptLemmas.{kept-of, kept-stands, stands-is, told-each}
 use Rattle.dg_parity.proofs.KeptSteps.{both-true, each-told, told-if}
@@ -189,8 +190,10 @@ grows-of rack size n old mid new s t again is long le ready h =
       size_is = h.later.size ∙ is;
       grows = λ j e. h.later.grows j (ap (λ (l : List Bool). get_or l j false) again.out ∙ e);
       told = λ e. sym again.told ∙ h.later.told e;
+      telling = λ e alive. h.later.telling (again.told ∙ e) alive;
       sure = h.later.sure ∙ again.sure;
       ready = record {
+        first = λ noted. absurd (false≢true (sym h.renewed ∙ noted));
         stands = λ j lt in0. subst (λ (k : ℕ). rack.stands t (disk_number k j) ≡ true) (sym h.later.number) (h.stands j (subst (λ (k : ℕ). j < k) h.later.disks lt) in0);
         room = λ j lt in0. subst (λ (k : ℕ). IfSome (rack.bytes t (disk_number k j)) (λ all. length all ≡ length_of new)) (sym number)
             (subst (λ (k : ℕ). IfSome (rack.bytes t (disk_number old.number j)) (λ all. length all ≡ k)) full
@@ -239,7 +242,7 @@ grown-stands rack size old new s t bytes le h all stands =
 -- ---- and then its headers were written
 
 module _ {S : Type 0} (rack : Ghosts S) (size : ℕ) (old mid new : Group) (s t u : S) (le : old.length ≤ size) (alive : is_lost old ≡ false) (kept : IsKept rack old s)
-    (grows : GrowsTo rack size old mid s t) (leaves : LeavesGroup rack mid new t u) (heads : (has : ℕ → ℕ → ℕ) → AllTold rack new u → Holds rack mid t has → Holds rack new u has) where
+    (grows : GrowsTo rack size old mid s t) (leaves : LeavesGroup rack mid new t u) (noted : is_lost new ≡ false → new.noted ≡ true) (heads : (has : ℕ → ℕ → ℕ) → AllTold rack new u → Holds rack mid t has → Holds rack new u has) where
   told-first : AllTold rack new u → AllTold rack old s
   told-first all =
       let back = told-back rack mid new t u leaves all in (
@@ -256,7 +259,10 @@ module _ {S : Type 0} (rack : Ghosts S) (size : ℕ) (old mid new : Group) (s t 
       (grown-stands rack size old mid s t bytes le grows (told-back rack mid new t u leaves all) (kept-stands rack old s alive kept (told-first all)))
 
   pub longer-kept : IsKept rack new u
-  longer-kept = kept-of rack new u (bytes ++ replicate (size - length bytes) 0) (λ in0. leaves.ready) (λ in0 all. stands-last all)
+  longer-kept = kept-of rack new u (bytes ++ replicate (size - length bytes) 0) (λ in0. leaves.ready) (λ in0. heads-numbered rack new u leaves.ready (noted in0)) (λ in0 all. stands-last all)
+
+  pub longer-telling : old.told ≡ true → is_lost new ≡ false → new.told ≡ true
+  longer-telling e in0 = leaves.later.telling (grows.telling e (alive-again mid new leaves.later.grows in0)) in0
 
   pub longer-told : is_lost new ≡ false → Told (Extended size) (bytes_in rack old s) (bytes_in rack new u)
   longer-told in0 =

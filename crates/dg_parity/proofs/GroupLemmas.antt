@@ -1,6 +1,6 @@
 -- Calls on the disks of a group, one after the other.
 use Rattle.std.proofs.Common.{◌≡◌, ◌≢◌, ℕ, ◌+◌, ◌/◌, ◌<◌, ◌≤◌, inl, inr, Bool, true, false, List, length, take, drop, get_or, refl, sym, ap, subst, ◌∙◌, arith}
-use Rattle.std.specs.Prelude.{Option, None, Some, IsSome, IfSome, Ok, Err}
+use Rattle.std.specs.Prelude.{Option, None, Some, IsSome, IfSome, Ok, Err, not}
 use Rattle.std.proofs.lemmas.Bool.{cases_eq, cases_Bool, false≢true}
 use Rattle.std.proofs.lemmas.List.{ext_get_or, get_or-take, length-take-le, take_at}
 use Rattle.dg_model.specs.Causes.{Rose}
@@ -9,10 +9,11 @@ use Rattle.dg_io.specs.RackWords.{Leaves}
 use Rattle.dg_io.specs.Told.{Told, IsSame, Torn, Patched, patch, StillTold}
 use Rattle.dg_io.specs.declared.outside.Rack.{Ghosts}
 use Rattle.dg_parity.specs.Stripes.{disk_length}
-use Rattle.dg_parity.specs.Groups.{disk_number, is_out, length_of, bytes_of, AllTold, IsReady, IsLater, IsAlike, IsApart, HasHead, header_in, LeavesGroup}
+use Rattle.dg_parity.specs.Groups.{disk_number, is_lost, is_out, length_of, bytes_of, AllTold, AreNumbered, IsNumbered, IsReady, IsLater, IsAlike, IsApart, HasHead, header_in, LeavesGroup}
 use Rattle.dg_parity.specs.Headers.{header_bytes}
 use Rattle.dg_parity.specs.declared.groups.Group.{Group}
 use Rattle.dg_parity.proofs.BytesLemmas.{patch-before, patch-length}
+use Rattle.dg_parity.proofs.MarkLemmas.{alive-again, marks-below}
 
 -- ---- told bytes
 
@@ -71,10 +72,19 @@ rise-then a b c f s = record {
 -- ---- one call, and calls one after the other
 
 pub later-same : (group : Group) → IsLater group group
-later-same group = record { number = refl; disks = refl; size = refl; grows = λ j h. h; epoch = omega arith; told = λ h. h; sure = refl }
+later-same group = record { number = refl; disks = refl; size = refl; grows = λ j h. h; epoch = omega arith; told = λ h. h; telling = λ h alive. h; sure = refl }
 
 pub later-then : (a b c : Group) → IsLater a b → IsLater b c → IsLater a c
-later-then a b c f s = record { number = s.number ∙ f.number; disks = s.disks ∙ f.disks; size = s.size ∙ f.size; grows = λ j h. s.grows j (f.grows j h); epoch = omega (arith, f.epoch, s.epoch); told = λ h. f.told (s.told h); sure = s.sure ∙ f.sure }
+later-then a b c f s = record {
+  number = s.number ∙ f.number;
+  disks = s.disks ∙ f.disks;
+  size = s.size ∙ f.size;
+  grows = λ j h. s.grows j (f.grows j h);
+  epoch = omega (arith, f.epoch, s.epoch);
+  told = λ h. f.told (s.told h);
+  telling = λ h alive. s.telling (f.telling h (alive-again b c s.grows alive)) alive;
+  sure = s.sure ∙ f.sure;
+}
 
 pub same-length : (old new : Group) → IsLater old new → length_of old ≡ length_of new
 same-length old new h = ap (λ (n : ℕ). disk_length n old.length) (sym h.disks) ∙ ap (disk_length new.disks) (sym h.size)
@@ -131,6 +141,76 @@ room-patched place n piece o None fits h e = tt
 room-patched place n piece None (Some y) fits h e = absurd h
 room-patched place n piece (Some x) (Some y) fits h e = ap length h ∙ patch-length x piece place (omega arith) ∙ e
 
+-- ---- the numbers of headers
+
+-- a page at the front of a disk that has the same bytes, or others behind that page
+pub page-same : (P : List ℕ → Type 0) (o p : Option (List ℕ)) → Told IsSame o p → IfSome o (λ all. P (take 512 all)) → IfSome p (λ all. P (take 512 all))
+page-same P o None h e = tt
+page-same P None (Some y) h e = absurd h
+page-same P (Some x) (Some y) h e = subst (λ (l : List ℕ). P (take 512 l)) (sym h) e
+
+pub page-patched : (P : List ℕ → Type 0) (o p : Option (List ℕ)) (piece : List ℕ) (place n : ℕ) → 512 ≤ place → place + length piece ≤ n → IfSome o (λ all. length all ≡ n)
+    → Told (Patched place piece) o p → IfSome o (λ all. P (take 512 all)) → IfSome p (λ all. P (take 512 all))
+page-patched P o None piece place n behind fits room h e = tt
+page-patched P None (Some y) piece place n behind fits room h e = absurd h
+page-patched P (Some x) (Some y) piece place n behind fits room h e = subst P (sym (ap (take 512) h ∙ take-patch x piece place behind (omega arith))) e
+
+-- a header of the group's own
+own-number : (group : Group) (j : ℕ) (page : List ℕ) → j < group.disks → page ≡ header_bytes (header_in group j) → IsNumbered group j page
+own-number group j page lt is = record {
+  header = header_in group j;
+  bytes = is;
+  fits = record {
+    epochs = group.epoch_fits;
+    groups = omega (arith, group.number_fits);
+    places = omega (arith, lt, group.most);
+    widths = omega (arith, group.most);
+    marked = marks-below (is_out group);
+    sizes = group.length_fits;
+  };
+  group = refl;
+  place = refl;
+  width = refl;
+  size = refl;
+  epoch = omega arith;
+}
+
+pub some-own : (group : Group) (j : ℕ) (o : Option (List ℕ)) → j < group.disks → IfSome o (λ all. take 512 all ≡ header_bytes (header_in group j)) → IfSome o (λ all. IsNumbered group j (take 512 all))
+some-own group j None lt h = tt
+some-own group j (Some all) lt h = own-number group j (take 512 all) lt h
+
+pub heads-numbered : {S : Type 0} (rack : Ghosts S) (group : Group) (now : S) → IsReady rack group now → group.noted ≡ true → AreNumbered rack group now
+heads-numbered rack group now ready noted j lt in0 = some-own group j (rack.bytes now (disk_number group.number j)) lt (ready.heads noted j lt in0)
+
+-- the same numbers, and no lower epoch
+pub some-later : (a b : Group) (j : ℕ) (o : Option (List ℕ)) → b.number ≡ a.number → b.disks ≡ a.disks → b.length ≡ a.length → a.epoch ≤ b.epoch → IfSome o (λ all. IsNumbered a j (take 512 all))
+    → IfSome o (λ all. IsNumbered b j (take 512 all))
+some-later a b j None number disks size epoch h = tt
+some-later a b j (Some all) number disks size epoch h = record {
+  header = h.header;
+  bytes = h.bytes;
+  fits = h.fits;
+  group = h.group ∙ sym number;
+  place = h.place;
+  width = h.width ∙ sym disks;
+  size = h.size ∙ sym size;
+  epoch = omega (arith, h.epoch, epoch);
+}
+
+-- each disk that is in was in, and has the bytes that it had
+pub numbers-along : {S : Type 0} (rack : Ghosts S) (old new : Group) (before now : S) → new.number ≡ old.number → new.disks ≡ old.disks → new.length ≡ old.length → old.epoch ≤ new.epoch
+    → ((j : ℕ) → j < old.disks → is_out new j ≡ false → (is_out old j ≡ false) × Told IsSame (rack.bytes before (disk_number old.number j)) (rack.bytes now (disk_number old.number j)))
+    → AreNumbered rack old before → AreNumbered rack new now
+numbers-along rack old new before now number disks size epoch same h j lt in0 =
+    let below : j < old.disks = subst (λ (n : ℕ). j < n) disks lt in
+    let was = same j below in0 in
+    subst (λ (s : ℕ). IfSome (rack.bytes now (disk_number s j)) (λ all. IsNumbered new j (take 512 all))) (sym number)
+    (some-later old new j (rack.bytes now (disk_number old.number j)) number disks size epoch (page-same (IsNumbered old j) _ _ was.1 (h j below was.0)))
+
+pub numbers-later : {S : Type 0} (rack : Ghosts S) (old new : Group) (now : S) → IsLater old new → AreNumbered rack old now → AreNumbered rack new now
+numbers-later rack old new now later h =
+    numbers-along rack old new now now later.number later.disks later.size later.epoch (λ j lt in0. (in-before old new j later in0, same-self (rack.bytes now (disk_number old.number j)))) h
+
 -- ---- the same disks are out of the same group
 
 pub alike-later : (old new : Group) → IsAlike old new → old.epoch ≤ new.epoch → IsLater old new
@@ -141,18 +221,20 @@ alike-later old new h epoch = record {
   grows = λ j e. ap (λ (l : List Bool). get_or l j false) h.out ∙ e;
   epoch = epoch;
   told = λ e. sym h.told ∙ e;
+  telling = λ e alive. h.told ∙ e;
   sure = h.sure;
 }
 
 alike-in : (old new : Group) (j : ℕ) → IsAlike old new → is_out new j ≡ false → is_out old j ≡ false
 alike-in old new j h e = ap (λ (l : List Bool). get_or l j false) (sym h.out) ∙ e
 
-pub leaves-alike : {S : Type 0} (rack : Ghosts S) (old new : Group) (now : S) → IsAlike old new → old.epoch ≤ new.epoch
+pub leaves-alike : {S : Type 0} (rack : Ghosts S) (old new : Group) (now : S) → IsAlike old new → old.epoch ≤ new.epoch → (new.noted ≡ true → 1 ≤ new.epoch)
     → (new.noted ≡ true → (j : ℕ) → j < new.disks → is_out new j ≡ false → HasHead rack new now j) → IsReady rack old now → LeavesGroup rack old new now now
-leaves-alike rack old new now alike epoch heads ready = record {
+leaves-alike rack old new now alike epoch first heads ready = record {
   later = alike-later old new alike epoch;
   cause = λ j lt a b. absurd (false≢true (sym a ∙ sym (ap (λ (l : List Bool). get_or l j false) alike.out) ∙ b));
   ready = record {
+    first = first;
     stands = λ j lt e. subst (λ (s : ℕ). rack.stands now (disk_number s j) ≡ true) (sym alike.number)
         (ready.stands j (subst (λ (n : ℕ). j < n) alike.disks lt) (alike-in old new j alike e));
     room = λ j lt e. subst (λ (s : ℕ). IfSome (rack.bytes now (disk_number s j)) (λ all. length all ≡ length_of new)) (sym alike.number)
@@ -160,6 +242,7 @@ leaves-alike rack old new now alike epoch heads ready = record {
         (ready.room j (subst (λ (n : ℕ). j < n) alike.disks lt) (alike-in old new j alike e)));
     heads = heads;
   };
+  numbers = numbers-later rack old new now (alike-later old new alike epoch);
   others = λ q ne. same-self (rack.bytes now q);
   other_faults = λ q ne. refl;
   others_stand = λ q ne h. h;
@@ -169,11 +252,12 @@ leaves-alike rack old new now alike epoch heads ready = record {
   steady_on = (λ h. h, λ h. h);
 }
 
-pub leaves-none : {S : Type 0} (rack : Ghosts S) (group : Group) (now : S) → IsReady rack group now → LeavesGroup rack group group now now
-leaves-none rack group now ready = record {
+pub leaves_none : {S : Type 0} (rack : Ghosts S) (group : Group) (now : S) → IsReady rack group now → LeavesGroup rack group group now now
+leaves_none rack group now ready = record {
   later = later-same group;
   cause = λ j lt a b. absurd (false≢true (sym a ∙ b));
   ready = ready;
+  numbers = λ h. h;
   others = λ q ne. same-self (rack.bytes now q);
   other_faults = λ q ne. refl;
   others_stand = λ q ne h. h;
@@ -187,11 +271,13 @@ pub leaves-done : {S T E : Type 0} (rack : Ghosts S) (group : Group) (j : ℕ) (
     → Leaves {E = E} rack (disk_number group.number j) (Ok x) before now → IsReady rack group before
     → IfSome (rack.bytes now (disk_number group.number j)) (λ all. length all ≡ length_of group)
     → (group.noted ≡ true → HasHead rack group now j)
+    → (AreNumbered rack group before → IfSome (rack.bytes now (disk_number group.number j)) (λ all. IsNumbered group j (take 512 all)))
     → is_out group j ≡ false → LeavesGroup rack group group before now
-leaves-done rack group j x before now lt call ready room head there = record {
+leaves-done rack group j x before now lt call ready room head number there = record {
   later = later-same group;
   cause = λ i h a b. absurd (false≢true (sym a ∙ b));
   ready = record {
+    first = ready.first;
     stands = λ i h e. elim (cases_eq i j) [
       | inl same ↦ subst (λ (k : ℕ). rack.stands now (disk_number group.number k) ≡ true) (sym same) (call.stands_on (subst (λ (k : ℕ). rack.stands before (disk_number group.number k) ≡ true) same (ready.stands i h e)))
       | inr ne ↦ call.others_stand (disk_number group.number i) (other-disk group.number i j ne) (ready.stands i h e)
@@ -205,6 +291,10 @@ leaves-done rack group j x before now lt call ready room head there = record {
       | inr ne ↦ head-same _ _ (header_bytes (header_in group i)) (call.others (disk_number group.number i) (other-disk group.number i j ne)) (ready.heads noted i h e)
     ];
   };
+  numbers = λ h i below e. elim (cases_eq i j) [
+    | inl same ↦ subst (λ (k : ℕ). IfSome (rack.bytes now (disk_number group.number k)) (λ all. IsNumbered group k (take 512 all))) (sym same) (number h)
+    | inr ne ↦ page-same (IsNumbered group i) _ _ (call.others (disk_number group.number i) (other-disk group.number i j ne)) (h i below e)
+  ];
   others = λ q apart. call.others q (apart j lt there);
   other_faults = λ q apart. call.other_faults q (apart j lt there);
   others_stand = λ q apart. call.others_stand q (apart j lt there);
@@ -223,6 +313,7 @@ leaves-failed rack old new j e before now lt there call ready m = record {
     | inr ne ↦ absurd (false≢true (sym a ∙ sym (m.others i ne) ∙ b))
   ];
   ready = record {
+    first = λ noted. absurd (false≢true (sym m.noted ∙ noted));
     stands = λ i h e. let ne = not-marked old new i j m e in
         subst (λ (s : ℕ). rack.stands now (disk_number s i) ≡ true) (sym m.later.number)
         (call.others_stand (disk_number old.number i) (other-disk old.number i j ne) (ready.stands i (subst (λ (n : ℕ). i < n) m.later.disks h) (in-before old new i m.later e)));
@@ -232,6 +323,8 @@ leaves-failed rack old new j e before now lt there call ready m = record {
         (room-same (length_of old) _ _ (call.others (disk_number old.number i) (other-disk old.number i j ne)) (ready.room i (subst (λ (n : ℕ). i < n) m.later.disks h) (in-before old new i m.later e))));
     heads = λ noted. absurd (false≢true (sym m.noted ∙ noted));
   };
+  numbers = numbers-along rack old new before now m.later.number m.later.disks m.later.size m.later.epoch
+      (λ i h e. (in-before old new i m.later e, call.others (disk_number old.number i) (other-disk old.number i j (not-marked old new i j m e))));
   others = λ q apart. call.others q (apart j lt there);
   other_faults = λ q apart. call.other_faults q (apart j lt there);
   others_stand = λ q apart. call.others_stand q (apart j lt there);
@@ -254,6 +347,7 @@ leaves-then rack a b c s t u f g = record {
         (g.cause j (subst (λ (n : ℕ). j < n) (sym f.later.disks) h) in0 y))
   ];
   ready = g.ready;
+  numbers = λ h. g.numbers (f.numbers h);
   others = λ q ne. same-then _ _ _ (f.others q ne) (g.others q (off a b q f.later ne));
   other_faults = λ q ne. g.other_faults q (off a b q f.later ne) ∙ f.other_faults q ne;
   others_stand = λ q ne h. g.others_stand q (off a b q f.later ne) (f.others_stand q ne h);
@@ -262,6 +356,10 @@ leaves-then rack a b c s t u f g = record {
   same_rack = g.same_rack ∙ f.same_rack;
   steady_on = (λ h. g.steady_on.0 (f.steady_on.0 h), λ h. f.steady_on.1 (g.steady_on.1 h));
 }
+
+pub lost-of : (b : Bool) → not b ≡ false → b ≡ true
+lost-of true h = refl
+lost-of false h = absurd (false≢true (sym h))
 
 -- ---- a call on disk j under its number q
 
@@ -272,17 +370,26 @@ read-done-at {T = T} {E = E} rack group j q x before now is lt there call ready 
     subst (λ (k : ℕ). Told IsSame (rack.bytes before k) (rack.bytes now k)) is same in
     leaves-done rack group j x before now lt (subst (λ (k : ℕ). Leaves {T = T} {E = E} rack k (Ok x) before now) is call) ready
     (room-same (length_of group) _ _ own (ready.room j lt there))
-    (λ noted. head-same _ _ (header_bytes (header_in group j)) own (ready.heads noted j lt there)) there
+    (λ noted. head-same _ _ (header_bytes (header_in group j)) own (ready.heads noted j lt there)) (λ h. page-same (IsNumbered group j) _ _ own (h j lt there)) there
 
 pub write-done-at : {S T E : Type 0} (rack : Ghosts S) (group : Group) (j q place : ℕ) (piece : List ℕ) (x : T) (before now : S) → q ≡ disk_number group.number j → j < group.disks
     → is_out group j ≡ false → Leaves {E = E} rack q (Ok x) before now → IsReady rack group before → (group.noted ≡ true → 512 ≤ place) → place + length piece ≤ length_of group
-    → Told (Patched place piece) (rack.bytes before q) (rack.bytes now q) → LeavesGroup rack group group before now
-write-done-at {T = T} {E = E} rack group j q place piece x before now is lt there call ready behind fits patched =
+    → Told (Patched place piece) (rack.bytes before q) (rack.bytes now q)
+    → (AreNumbered rack group before → IfSome (rack.bytes now (disk_number group.number j)) (λ all. IsNumbered group j (take 512 all))) → LeavesGroup rack group group before now
+write-done-at {T = T} {E = E} rack group j q place piece x before now is lt there call ready behind fits patched number =
     let own : Told (Patched place piece) (rack.bytes before (disk_number group.number j)) (rack.bytes now (disk_number group.number j)) =
     subst (λ (k : ℕ). Told (Patched place piece) (rack.bytes before k) (rack.bytes now k)) is patched in
     leaves-done rack group j x before now lt (subst (λ (k : ℕ). Leaves {T = T} {E = E} rack k (Ok x) before now) is call) ready
     (room-patched place (length_of group) piece _ _ fits own (ready.room j lt there))
-    (λ noted. head-patched _ _ (header_bytes (header_in group j)) piece place (length_of group) (behind noted) fits (ready.room j lt there) own (ready.heads noted j lt there)) there
+    (λ noted. head-patched _ _ (header_bytes (header_in group j)) piece place (length_of group) (behind noted) fits (ready.room j lt there) own (ready.heads noted j lt there)) number there
+
+-- a piece that was written behind the header
+pub number-behind : {S : Type 0} (rack : Ghosts S) (group : Group) (j q place : ℕ) (piece : List ℕ) (before now : S) → q ≡ disk_number group.number j → j < group.disks → is_out group j ≡ false
+    → IsReady rack group before → 512 ≤ place → place + length piece ≤ length_of group → Told (Patched place piece) (rack.bytes before q) (rack.bytes now q) → AreNumbered rack group before
+    → IfSome (rack.bytes now (disk_number group.number j)) (λ all. IsNumbered group j (take 512 all))
+number-behind rack group j q place piece before now is lt there ready behind fits patched h =
+    page-patched (IsNumbered group j) _ _ piece place (length_of group) behind fits (ready.room j lt there)
+    (subst (λ (k : ℕ). Told (Patched place piece) (rack.bytes before k) (rack.bytes now k)) is patched) (h j lt there)
 
 pub failed-at : {S T E : Type 0} (rack : Ghosts S) (old new : Group) (j q : ℕ) (e : E) (before now : S) → q ≡ disk_number old.number j → j < old.disks → is_out old j ≡ false
     → Leaves {T = T} rack q (Err e) before now → IsReady rack old before → Marks old new j → LeavesGroup rack old new before now

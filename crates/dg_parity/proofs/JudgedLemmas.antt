@@ -10,7 +10,7 @@ use Rattle.dg_parity.specs.Sound.{IsJudged, is_sound}
 use Rattle.dg_parity.specs.declared.groups.Group.{Group}
 use Rattle.dg_parity.specs.declared.headers.Header.{Header}
 use Rattle.dg_parity.proofs.ArraySteps.{some-at}
-use Rattle.dg_parity.proofs.OpenedLemmas.{opened-ready}
+use Rattle.dg_parity.proofs.OpenedLemmas.{opened-numbered, opened-ready}
 use Rattle.dg_parity.proofs.SoundLemmas.{sound-of}
 
 -- what is remembered of a group is no part of what its headers say
@@ -44,6 +44,7 @@ made-group rack fronts n s group before now most found h = record {
   number = h.by.number;
   kept = record {
     ready = λ alive. opened-ready rack fronts n s group before now most found h.by;
+    numbers = λ alive. opened-numbered rack fronts n s group before now most found h.by;
     even = λ alive all. (sound-of rack group now (sym h.sure ∙ all.0)).0;
     clear = λ alive all. (sound-of rack group now (sym h.sure ∙ all.0)).1;
   };
@@ -55,6 +56,7 @@ unmade-group rack n s group now h = record {
   number = h.number;
   kept = record {
     ready = λ alive. absurd (false≢true (sym alive ∙ h.lost));
+    numbers = λ alive. absurd (false≢true (sym alive ∙ h.lost));
     even = λ alive. absurd (false≢true (sym alive ∙ h.lost));
     clear = λ alive. absurd (false≢true (sym alive ∙ h.lost));
   };

@@ -1,11 +1,11 @@
 -- What a group tells and what it stands for are one.
 use Rattle.std.proofs.Common.{◌≡◌, ◌≢◌, ℕ, zero, suc, ◌<◌, ◌≤◌, inl, inr, Bool, true, false, List, refl, sym, ap, subst, ◌∙◌, arith}
 use Rattle.std.specs.Prelude.{is_some, slice_index, if◌then◌else◌}
-use Rattle.std.proofs.lemmas.Bool.{cases_eq, cases_Bool, and_parts}
+use Rattle.std.proofs.lemmas.Bool.{cases_eq, cases_Bool, false≢true, and_parts}
 use Rattle.dg_io.specs.declared.outside.Rack.{Ghosts}
 use Rattle.dg_parity.specs.Exclusive.{xor_upto, with_at}
 use Rattle.dg_parity.specs.Stripes.{InStripes, IsClear, IsEven, member_by, made_up, spot_of}
-use Rattle.dg_parity.specs.Groups.{disk_number, is_out, is_lost, is_sure, disk_in, AllTold, Holds, IsReady, StandsFor}
+use Rattle.dg_parity.specs.Groups.{disk_number, is_out, is_lost, is_sure, disk_in, AllTold, AreNumbered, Holds, IsReady, StandsFor}
 use Rattle.dg_parity.specs.Kept.{all_upto, all_told, made_by, IsKept}
 use Rattle.dg_parity.specs.declared.groups.Group.{Group}
 use Rattle.dg_parity.proofs.ExclusiveLemmas.{xor-same, xor-others, with-same, with-other}
@@ -71,9 +71,10 @@ stands-clear rack group now bytes alive h b behind range =
 
 -- what is kept of a group that stands for some bytes
 pub kept-of : {S : Type 0} (rack : Ghosts S) (group : Group) (now : S) (bytes : List ℕ) → (is_lost group ≡ false → IsReady rack group now)
-    → (is_lost group ≡ false → AllTold rack group now → StandsFor rack group now bytes) → IsKept rack group now
-kept-of rack group now bytes ready stands = record {
+    → (is_lost group ≡ false → AreNumbered rack group now) → (is_lost group ≡ false → AllTold rack group now → StandsFor rack group now bytes) → IsKept rack group now
+kept-of rack group now bytes ready numbers stands = record {
   ready = ready;
+  numbers = numbers;
   even = λ in0 all. stands-even rack group now bytes in0 (stands in0 all);
   clear = λ in0 all. stands-clear rack group now bytes in0 (stands in0 all);
 }
@@ -83,3 +84,12 @@ pub stands-is : {S : Type 0} (rack : Ghosts S) (group : Group) (now : S) (bytes 
 stands-is rack group now bytes least alive h =
     h.is ∙ sym (member-same group.disks group.length (made_by rack group now) h.has (λ b lt.
     made-is rack group now h.has (spot_of group.disks b).disk (spot_of group.disks b).place alive h.holds h.even (disk-below group.disks b least) (spot-in group.disks b group.length least lt)))
+
+-- of a lost group nothing is kept
+pub kept_lost : {S : Type 0} (rack : Ghosts S) (group : Group) (now : S) → is_lost group ≡ true → IsKept rack group now
+kept_lost rack group now lost = record {
+  ready = λ alive. absurd (false≢true (sym alive ∙ lost));
+  numbers = λ alive. absurd (false≢true (sym alive ∙ lost));
+  even = λ alive. absurd (false≢true (sym alive ∙ lost));
+  clear = λ alive. absurd (false≢true (sym alive ∙ lost));
+}

@@ -9,7 +9,7 @@ use Rattle.dg_parity.specs.Stripes.{member_by}
 use Rattle.dg_parity.specs.Groups.{disk_number, is_lost, length_of, bytes_of, AllTold, IsReady, Holds, StandsFor, IsLater, LeavesGroup}
 use Rattle.dg_parity.specs.Kept.{all_upto, all_told, made_by, bytes_in, IsKept}
 use Rattle.dg_parity.specs.declared.groups.Group.{Group}
-use Rattle.dg_parity.proofs.GroupLemmas.{told-before, in-before, same-length, same-then}
+use Rattle.dg_parity.proofs.GroupLemmas.{told-before, in-before, numbers-later, same-length, same-then}
 use Rattle.dg_parity.proofs.HoldLemmas.{range-before}
 use Rattle.dg_parity.proofs.MemberSteps.{stands-along}
 use Rattle.dg_parity.proofs.CallLemmas.{told-back}
@@ -46,7 +46,7 @@ pub kept-along : {S : Type 0} (rack : Ghosts S) (old new : Group) (s t : S) → 
     → (f : List ℕ → List ℕ) → (is_lost new ≡ false → (bytes : List ℕ) → AllTold rack new t → StandsFor rack old s bytes → StandsFor rack new t (f bytes))
     → IsKept rack new t
 kept-along rack old new s t alive kept leaves f stands =
-    kept-of rack new t (f (member_by old.disks old.length (made_by rack old s))) (λ in0. leaves.ready) (λ in0 all.
+    kept-of rack new t (f (member_by old.disks old.length (made_by rack old s))) (λ in0. leaves.ready) (λ in0. leaves.numbers (kept.numbers alive)) (λ in0 all.
     stands in0 (member_by old.disks old.length (made_by rack old s)) all (kept-stands rack old s alive kept (told-back rack old new s t leaves all)))
 
 -- what its member's bytes have become
@@ -95,6 +95,7 @@ told-number rack old mid now later all = told-before rack old mid now now later 
 
 pub marked-ready : {S : Type 0} (rack : Ghosts S) (old mid : Group) (now : S) → IsLater old mid → mid.noted ≡ false → IsReady rack old now → IsReady rack mid now
 marked-ready rack old mid now later noted ready = record {
+  first = λ h. absurd (false≢true (sym noted ∙ h));
   heads = λ h. absurd (false≢true (sym noted ∙ h));
   stands = λ i lt in0. subst (λ (s : ℕ). rack.stands now (disk_number s i) ≡ true) (sym later.number) (ready.stands i (subst (λ (n : ℕ). i < n) later.disks lt) (in-before old mid i later in0));
   room = λ i lt in0. subst (λ (s : ℕ). IfSome (rack.bytes now (disk_number s i)) (λ all. length all ≡ length_of mid)) (sym later.number)
@@ -104,7 +105,7 @@ marked-ready rack old mid now later noted ready = record {
 
 pub marked-kept : {S : Type 0} (rack : Ghosts S) (old mid : Group) (now : S) → is_lost old ≡ false → IsLater old mid → mid.noted ≡ false → IsKept rack old now → IsKept rack mid now
 marked-kept rack old mid now alive later noted kept =
-    kept-of rack mid now (member_by old.disks old.length (made_by rack old now)) (λ in0. marked-ready rack old mid now later noted (kept.ready alive)) (λ in0 all.
+    kept-of rack mid now (member_by old.disks old.length (made_by rack old now)) (λ in0. marked-ready rack old mid now later noted (kept.ready alive)) (λ in0. numbers-later rack old mid now later (kept.numbers alive)) (λ in0 all.
     marked-stands rack old mid now (member_by old.disks old.length (made_by rack old now)) later (kept-stands rack old now alive kept (told-number rack old mid now later all)))
 
 pub marked-told : {S : Type 0} (rack : Ghosts S) (old mid : Group) (now : S) → 3 ≤ old.disks → is_lost old ≡ false → is_lost mid ≡ false → IsLater old mid → IsKept rack old now

@@ -7,11 +7,11 @@ use Rattle.std.proofs.lemmas.Nat.{mod_below, xor_comm}
 use Rattle.std.specs.Int.Bits.{xor_self, xor_zero_l, xor_zero_r}
 use lib.Bits.{xor_assoc}
 use Rattle.dg_parity.specs.Exclusive.{xor_upto, with_at, IsXored}
-use Rattle.dg_parity.specs.Stripes.{parity_of, spot_of, stripe_of}
+use Rattle.dg_parity.specs.Stripes.{parity_of, stripe_of}
 use Rattle.dg_parity.specs.Runs.{byte_in, byte_on, data_on, laid, mixed, over, stripe_at, term_of, ChangesPage, GathersRow, IsPatched, IsSpan, IsWindow, Overlays}
 use Rattle.dg_parity.specs.declared.windows.Window.{Window}
 use Rattle.dg_parity.proofs.RowLemmas.{chunk-before, chunk-behind}
-use Rattle.dg_parity.proofs.ExclusiveLemmas.{xor-same, xor-with, xor-twice, with-same, with-other}
+use Rattle.dg_parity.proofs.ExclusiveLemmas.{xor-same, xor-with, with-same, with-other}
 
 eqb-not : (i a : ℕ) → i ≢ a → (i == a) ≡ false
 eqb-not i a ne = grind (arith, nat_tests)

@@ -1,20 +1,20 @@
 -- Groups that stand for the bytes of a member hold what these lay on the disks.
-use Rattle.std.proofs.Common.{◌≡◌, ◌≢◌, ℕ, ◌+◌, ◌-◌, ◌*◌, ◌/◌, ◌%◌, ◌<◌, ◌≤◌, ◌⊎◌, inl, inr, Bool, false, List, [], length, take, drop, get_or, refl, sym, ap, subst, ◌∙◌, arith}
+use Rattle.std.proofs.Common.{◌≡◌, ◌≢◌, ℕ, ◌+◌, ◌-◌, ◌*◌, ◌/◌, ◌%◌, ◌<◌, ◌≤◌, ◌⊎◌, inl, inr, Bool, false, List, [], length, take, drop, get_or, sym, ap, subst, ◌∙◌, arith}
 use Rattle.std.specs.Prelude.{slice_index}
 use Rattle.std.proofs.lemmas.Bool.{cases_eq, cases_lt}
 use Rattle.std.proofs.lemmas.List.{ext_get_or, get_or-take, get_or-drop, length-take-le, length-drop}
 use Rattle.dg_io.specs.Told.{patch}
 use Rattle.dg_io.specs.declared.outside.Rack.{Ghosts}
 use Rattle.dg_parity.specs.Exclusive.{with_at}
-use Rattle.dg_parity.specs.Stripes.{parity_of, spot_of, stripe_of, stripes_of, disk_length, member_by, put, InStripes, IsClear, IsEven}
-use Rattle.dg_parity.specs.Groups.{is_out, length_of, AllTold, Holds, IsLater, LeavesGroup, StandsFor}
-use Rattle.dg_parity.specs.Runs.{byte_in, byte_on, chunk_on, data_on, laid, mixed, stripe_at, ArePages, GathersRow, IsPatched, IsSpan, IsWindow}
+use Rattle.dg_parity.specs.Stripes.{parity_of, spot_of, stripe_of, member_by, put, InStripes, IsClear, IsEven}
+use Rattle.dg_parity.specs.Groups.{is_out, Holds, IsLater, StandsFor}
+use Rattle.dg_parity.specs.Runs.{byte_on, chunk_on, data_on, laid, mixed, stripe_at, ArePages, GathersRow, IsPatched, IsSpan, IsWindow}
 use Rattle.dg_parity.specs.declared.groups.Group.{Group}
 use Rattle.dg_parity.specs.declared.windows.Window.{Window}
 use Rattle.dg_parity.proofs.BytesLemmas.{patch-inside, patch-before, patch-behind, patch-length, place_is, Before, Inside, Behind, inside-before, inside-behind}
 use Rattle.dg_parity.proofs.ExclusiveLemmas.{xor-same, xor-others, with-same, with-other}
 use Rattle.dg_parity.proofs.GroupLemmas.{in-before}
-use Rattle.dg_parity.proofs.HoldLemmas.{holds-of, put-other, put-inside, put-outside}
+use Rattle.dg_parity.proofs.HoldLemmas.{holds-of, put-inside, put-outside}
 use Rattle.dg_parity.proofs.LaidLemmas.{past-end, laid-data, laid-parity, laid-even, stripe-is, byte-is, row-inside, row-outside, mixed-other, mixed-before, mixed-after, mixed-none}
 use Rattle.dg_parity.proofs.MemberLemmas.{member-at, member-length}
 use Rattle.dg_parity.proofs.RunLemmas.{chunk-of, stands-on}

@@ -12,6 +12,7 @@ pub mod EpochLemmas
 pub mod ExclusiveLemmas
 pub mod ExtendLemmas
 pub mod FallLemmas
+pub mod GoesOnLemmas
 pub mod GroupLemmas
 pub mod HoldLemmas
 pub mod JudgedLemmas
@@ -19,6 +20,7 @@ pub mod KeptLemmas
 pub mod KeptSteps
 pub mod LaidLemmas
 pub mod LaidSteps
+pub mod MarkLemmas
 pub mod MemberLemmas
 pub mod MemberSteps
 pub mod MendLemmas

@@ -1,5 +1,5 @@
 -- A disk that comes back, stripe by stripe.
-use Rattle.std.proofs.Common.{◌≡◌, ◌≢◌, ℕ, ◌+◌, ◌-◌, ◌*◌, ◌<◌, ◌≤◌, inl, inr, true, false, List, length, sym, ap, subst, ◌∙◌, arith, bit_xor}
+use Rattle.std.proofs.Common.{◌≡◌, ◌≢◌, ℕ, ◌+◌, ◌-◌, ◌*◌, ◌<◌, ◌≤◌, inl, inr, true, false, List, length, refl, sym, ap, subst, ◌∙◌, arith, bit_xor}
 use Rattle.std.specs.Prelude.{Option, None, Some, IsSome, IfSome, Result, Ok, slice_index}
 use Rattle.std.proofs.lemmas.List.{length-replicate}
 use Rattle.std.proofs.lemmas.Bool.{cases_eq, cases_lt, cases_Bool, false≢true}
@@ -14,7 +14,7 @@ use Rattle.dg_parity.specs.Headers.{header_bytes}
 use Rattle.dg_parity.specs.Mends.{FilledTo, IsRefilled, LeavesBut}
 use Rattle.dg_parity.specs.declared.groups.Group.{Group}
 use Rattle.dg_parity.proofs.BytesLemmas.{patch-inside, patch-before}
-use Rattle.dg_parity.proofs.GroupLemmas.{later-same, later-then, told-at, told-before, same-then, rise-then, rose-later, rose-sooner, off, room-same, other-disk, same-length, head-same, room-patched}
+use Rattle.dg_parity.proofs.GroupLemmas.{later-same, later-then, told-at, told-before, same-then, rise-then, rose-later, rose-sooner, off, room-same, other-disk, same-length, head-same, numbers-along, room-patched}
 use Rattle.dg_parity.proofs.HoldLemmas.{length-told}
 use Rattle.dg_parity.proofs.PartLemmas.{made-up}
 
@@ -51,6 +51,7 @@ but-of rack j old new before now h = record {
   later = h.later;
   cause = h.cause;
   ready = h.ready;
+  numbers = h.numbers;
   others = λ q apart ne. h.others q apart;
   other_faults = λ q apart ne. h.other_faults q apart;
   others_stand = λ q apart ne. h.others_stand q apart;
@@ -69,10 +70,13 @@ but-call rack group j r before now out call ready = record {
   later = later-same group;
   cause = λ i lt a b. absurd (false≢true (sym a ∙ b));
   ready = record {
+    first = ready.first;
     stands = λ i h in0. call.others_stand (disk_number group.number i) (other-disk group.number i j (in-other group i j out in0)) (ready.stands i h in0);
     room = λ i h in0. room-same (length_of group) _ _ (call.others (disk_number group.number i) (other-disk group.number i j (in-other group i j out in0))) (ready.room i h in0);
     heads = λ noted i h in0. head-same _ _ (header_bytes (header_in group i)) (call.others (disk_number group.number i) (other-disk group.number i j (in-other group i j out in0))) (ready.heads noted i h in0);
   };
+  numbers = numbers-along rack group group before now refl refl refl (omega arith)
+      (λ i h in0. (in0, call.others (disk_number group.number i) (other-disk group.number i j (in-other group i j out in0))));
   others = λ q apart ne. call.others q ne;
   other_faults = λ q apart ne. call.other_faults q ne;
   others_stand = λ q apart ne. call.others_stand q ne;
@@ -95,6 +99,7 @@ but-then rack j a b c s t u f g = record {
         (g.cause i (subst (λ (n : ℕ). i < n) (sym f.later.disks) h) in0 y))
   ];
   ready = g.ready;
+  numbers = λ h. g.numbers (f.numbers h);
   others = λ q apart ne. same-then _ _ _ (f.others q apart ne) (g.others q (off a b q f.later apart) (off-number a b q j f.later ne));
   other_faults = λ q apart ne. g.other_faults q (off a b q f.later apart) (off-number a b q j f.later ne) ∙ f.other_faults q apart ne;
   others_stand = λ q apart ne h. g.others_stand q (off a b q f.later apart) (off-number a b q j f.later ne) (f.others_stand q apart ne h);
@@ -222,6 +227,7 @@ mended-holds rack old new now j has u filled held = record {
 
 pub mended-ready : {S : Type 0} (rack : Ghosts S) (old new : Group) (now : S) (j : ℕ) → Unmarks old new j → IsRefilled rack old now j → IsReady rack old now → IsReady rack new now
 mended-ready rack old new now j u refilled ready = record {
+  first = λ noted. absurd (false≢true (sym u.noted ∙ noted));
   stands = λ i lt in0. subst (λ (s : ℕ). rack.stands now (disk_number s i) ≡ true) (sym u.number) (elim (cases_eq i j) [
     | inl same ↦ subst (λ (k : ℕ). rack.stands now (disk_number old.number k) ≡ true) (sym same) refilled.stands
     | inr ne ↦ ready.stands i (subst (λ (n : ℕ). i < n) u.disks lt) (sym (u.others i ne) ∙ in0)

@@ -25,7 +25,8 @@ heads-more rack a b t u j i is lt in0 before own others =
 
 -- the next headers are to be written
 pub renewed : {S : Type 0} (rack : Ghosts S) (old new : Group) (now : S) → IsAlike old new → old.epoch ≤ new.epoch → new.noted ≡ false → IsReady rack old now → LeavesGroup rack old new now now
-renewed rack old new now alike later noted ready = leaves-alike rack old new now alike later (λ h. absurd (false≢true (sym noted ∙ h))) ready
+renewed rack old new now alike later noted ready =
+    leaves-alike rack old new now alike later (λ h. absurd (false≢true (sym noted ∙ h))) (λ h. absurd (false≢true (sym noted ∙ h))) ready
 
 header-alike : (a b : Group) (j : ℕ) → IsAlike a b → b.epoch ≡ a.epoch → header_in b j ≡ header_in a j
 header-alike a b j h epoch =
@@ -38,12 +39,12 @@ head-alike rack a b u j h epoch head =
     (subst (λ (k : Header). IfSome (rack.bytes u (disk_number a.number j)) (λ all. take 512 all ≡ header_bytes k)) (sym (header-alike a b j h epoch)) head)
 
 -- each header was written (group m, which is a), and the group says so (b)
-pub settled : {S : Type 0} (rack : Ghosts S) (m a b : Group) (u : S) → a ≡ m → IsAlike a b → b.epoch ≡ a.epoch
+pub settled : {S : Type 0} (rack : Ghosts S) (m a b : Group) (u : S) → a ≡ m → 1 ≤ m.epoch → IsAlike a b → b.epoch ≡ a.epoch
     → ((i : ℕ) → i < m.disks → is_out m i ≡ false → HasHead rack m u i) → IsReady rack a u → LeavesGroup rack a b u u
-settled rack m a b u is alike epoch heads ready =
+settled rack m a b u is first alike epoch heads ready =
     let own : (i : ℕ) → i < a.disks → is_out a i ≡ false → HasHead rack a u i =
     subst (λ (k : Group). (i : ℕ) → i < k.disks → is_out k i ≡ false → HasHead rack k u i) (sym is) heads in
-    leaves-alike rack a b u alike (omega (arith, epoch))
+    leaves-alike rack a b u alike (omega (arith, epoch)) (λ noted. omega (arith, epoch, first, ap (λ (k : Group). k.epoch) is))
     (λ noted i lt in0. head-alike rack a b u i alike epoch
     (own i (subst (λ (n : ℕ). i < n) alike.disks lt) (ap (λ (l : List Bool). get_or l i false) (sym alike.out) ∙ in0)))
     ready

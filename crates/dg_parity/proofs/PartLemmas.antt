@@ -4,7 +4,7 @@ use Rattle.std.specs.Prelude.{slice_index, nat_le, ◌==◌, if◌then◌else◌
 use Rattle.std.proofs.lemmas.Bool.{cases_eq, cases_Bool, false≢true}
 use Rattle.std.proofs.lemmas.Bool.Decides.{nat_tests}
 use Rattle.std.proofs.lemmas.Nat.{xor_comm}
-use Rattle.std.proofs.lemmas.List.Sums.{sum_by-cons, sum_by-set}
+use Rattle.std.proofs.lemmas.List.Sums.{sum_by-set}
 use Rattle.std.specs.Int.Bits.{xor_zero_l, xor_zero_r}
 use lib.Bits.{xor_assoc}
 use Rattle.dg_parity.specs.Exclusive.{xor_upto, with_at}
@@ -14,17 +14,11 @@ use Rattle.dg_parity.specs.declared.groups.Group.{Group}
 use Rattle.dg_parity.specs.declared.stripes.Spot.{Spot}
 use Rattle.dg_parity.proofs.BytesLemmas.{is_inside, place_is, Before, Inside, Behind, inside-true, inside-before, inside-behind}
 use Rattle.dg_parity.proofs.ExclusiveLemmas.{xor-same, xor-others, xor-parity, xor-written, with-same, with-other}
+use Rattle.dg_parity.proofs.MarkLemmas.{count-step, one-of}
 use Rattle.dg_parity.proofs.HoldLemmas.{put-other, put-inside, put-outside}
 use Rattle.dg_parity.proofs.MemberLemmas.{written-outside, written-beside, written-inside}
 
 -- ---- marks
-
-pub count-step : (x : Bool) (xs : List Bool) → count_by (λ x. x) (x ∷ xs) ≡ cond x 1 0 + count_by (λ x. x) xs
-count-step x xs = sum_by-cons (λ (y : Bool). cond y 1 0) x xs
-
-pub one-of : (x : Bool) → x ≡ true → cond {A = ℕ} x 1 0 ≡ 1
-one-of true h = refl
-one-of false h = absurd (false≢true h)
 
 one-mark : (xs : List Bool) (i : ℕ) → get_or xs i false ≡ true → 1 ≤ count_by (λ x. x) xs
 one-mark [] i h = absurd (false≢true h)
@@ -55,6 +49,22 @@ lost-set xs j lt h =
 
 pub others-in : (group : Group) (a j : ℕ) → is_lost group ≡ false → is_out group a ≡ true → j ≢ a → is_out group j ≡ false
 others-in group a j alive out ne = elim (cases_Bool (is_out group j)) [ inr in0 ↦ in0 | inl in1 ↦ absurd (false≢true (sym alive ∙ two-out group j a ne in1 out)) ]
+
+-- of two groups that aren't lost one of the first three disks is in, in both
+pub both-in : (a b : Group) → is_lost a ≡ false → is_lost b ≡ false → (p : ℕ) × (p < 3) × (is_out a p ≡ false) × (is_out b p ≡ false)
+both-in a b alive alive2 = elim (cases_Bool (is_out a 0)) [
+  | inl out ↦ elim (cases_Bool (is_out b 1)) [
+    | inr in1 ↦ (1, omega arith, others-in a 0 1 alive out (λ e. absurd (omega (arith, e))), in1)
+    | inl out1 ↦ (2, omega arith, others-in a 0 2 alive out (λ e. absurd (omega (arith, e))), others-in b 1 2 alive2 out1 (λ e. absurd (omega (arith, e))))
+  ]
+  | inr in0 ↦ elim (cases_Bool (is_out b 0)) [
+    | inr in1 ↦ (0, omega arith, in0, in1)
+    | inl out ↦ elim (cases_Bool (is_out a 1)) [
+      | inr in1 ↦ (1, omega arith, in1, others-in b 0 1 alive2 out (λ e. absurd (omega (arith, e))))
+      | inl out1 ↦ (2, omega arith, others-in a 1 2 alive out1 (λ e. absurd (omega (arith, e))), others-in b 0 2 alive2 out (λ e. absurd (omega (arith, e))))
+    ]
+  ]
+]
 
 -- ---- the parity of a piece
 

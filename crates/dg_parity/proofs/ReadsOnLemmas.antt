@@ -1,48 +1,26 @@
 -- A rack that is opened again tells what it told.
-use Rattle.std.proofs.Common.{◌≡◌, ℕ, suc, ◌*◌, ◌<◌, ◌≤◌, inl, inr, Bool, true, false, List, [], ◌∷◌, length, get_or, refl, sym, ap, subst, ◌∙◌, arith, cond}
-use Rattle.std.specs.Prelude.{Option, None, Some, IsSome, count_by, not, slice_get, ◌&&◌, if◌then◌else◌}
+use Rattle.std.proofs.Common.{◌≡◌, ℕ, ◌*◌, ◌<◌, ◌≤◌, inl, inr, Bool, true, false, List, [], length, refl, sym, ap, subst, ◌∙◌, arith}
+use Rattle.std.specs.Prelude.{Option, None, Some, IsSome, not, slice_get, ◌&&◌, if◌then◌else◌}
 use Rattle.std.proofs.lemmas.Bool.{and_parts, cases_Bool, cases_lt, false≢true}
-use Rattle.std.proofs.lemmas.Bool.Decides.{nat_tests}
 use Rattle.dg_io.specs.Told.{Told, IsSame}
 use Rattle.dg_io.specs.declared.outside.Rack.{Ghosts}
-use Rattle.dg_parity.specs.Arrays.{DisksTell, Grouped, HasNoCalls, IsGroupOf, IsHeld, TellsNone, grouped_bytes, is_served, is_unmade, out_of, size_of, width_of}
+use Rattle.dg_parity.specs.Arrays.{DisksTell, Grouped, HasNoCalls, IsGroupOf, IsHeld, TellsNone, grouped_bytes, is_served, is_unmade, out_of}
 use Rattle.dg_parity.specs.Groups.{disk_number, disk_in, bytes_of, is_lost, is_out, is_sure, AllTold, StandsFor}
 use Rattle.dg_parity.specs.Kept.{all_told, bytes_in, made_by}
-use Rattle.dg_parity.specs.Openings.{IsOpenedOr, LeavesRead, OpensGroups}
+use Rattle.dg_parity.specs.Openings.{IsOpened, IsOpenedOr, LeavesRead, OpensGroups}
 use Rattle.dg_parity.specs.Reopens.{IsBack, OpensArray, ReadsOn, TellsSound}
 use Rattle.dg_parity.specs.Sound.{is_sound}
 use Rattle.dg_parity.specs.Stripes.{member_by}
 use Rattle.dg_parity.specs.declared.groups.Group.{Group}
 use Rattle.dg_parity.specs.declared.parity_racks.ParityRack.TheVariants.{Plain, OfGroups}
 use Rattle.dg_parity.proofs.ArraySteps.{all-told, bare-tells, member-group, member-told, some-at, tells-bytes}
-use Rattle.dg_parity.proofs.EpochLemmas.{stands-again, tells-again}
+use Rattle.dg_parity.proofs.EpochLemmas.{same-numbers, stands-again, tells-again}
 use Rattle.dg_parity.proofs.GroupLemmas.{same-then, told-at}
 use Rattle.dg_parity.proofs.JudgedLemmas.{opened-at}
 use Rattle.dg_parity.proofs.KeptLemmas.{kept-stands, stands-clear, stands-even, told-each}
-use Rattle.dg_parity.proofs.PartLemmas.{count-step, one-of}
+use Rattle.dg_parity.proofs.MarkLemmas.{alive-again}
+use Rattle.dg_parity.proofs.PartLemmas.{both-in}
 use Rattle.dg_parity.proofs.SoundLemmas.{is-below, not-below, sound-is}
-
--- ---- marks
-
-zero-of : (x : Bool) → x ≡ false → cond {A = ℕ} x 1 0 ≡ 0
-zero-of true h = absurd (false≢true (sym h))
-zero-of false h = refl
-
-count-le : (xs ys : List Bool) → ((j : ℕ) → get_or xs j false ≡ true → get_or ys j false ≡ true) → count_by (λ x. x) xs ≤ count_by (λ x. x) ys
-count-le [] ys h = let none : count_by (λ x. x) [] ≡ 0 = refl in omega (arith, none)
-count-le (x ∷ xs) [] h =
-    let rest = count-le xs [] (λ j e. h (suc j) e) in
-    elim (cases_Bool x) [ inl t ↦ absurd (false≢true (h 0 t)) | inr f ↦ omega (arith, count-step x xs, zero-of x f, rest) ]
-count-le (x ∷ xs) (y ∷ ys) h =
-    let rest = count-le xs ys (λ j e. h (suc j) e) in
-    elim (cases_Bool x) [
-      | inl t ↦ omega (arith, count-step x xs, count-step y ys, one-of x t, one-of y (h 0 t), rest)
-      | inr f ↦ omega (arith, count-step x xs, count-step y ys, zero-of x f, rest)
-    ]
-
--- a group isn't lost where another one isn't that has as many disks out
-alive-again : (group next : Group) → ((j : ℕ) → is_out group j ≡ true → is_out next j ≡ true) → is_lost next ≡ false → is_lost group ≡ false
-alive-again group next h alive = let le = count-le group.out next.out h in grind (arith, nat_tests)
 
 pub out-is : (group : Group) (j : ℕ) → out_of (Some group) j ≡ is_out group j
 out-is group j = elim (cases_lt j group.disks) [
@@ -159,15 +137,36 @@ module _ {R : Type 0} (rack : Ghosts R) where
         sym (out-is group j) ∙ sym (ap (λ (o : Option Group). out_of o j) was)
         ∙ back.ins j (ap (λ (o : Option Group). out_of o j) is ∙ out-is next j ∙ in0)
 
+    stays : (j : ℕ) → is_out group j ≡ true → is_out next j ≡ true
+    stays j out = elim (cases_Bool (is_out next j)) [ inl out2 ↦ out2 | inr in0 ↦ absurd (false≢true (sym (ins j in0) ∙ out)) ]
+
+    alive0 : is_lost group ≡ false
+    alive0 = alive-again group next stays alive
+
+    wide : new.width ≡ back.width
+    wide = ap of-nat back.width_is
+
+    untouched : (j : ℕ) → j < back.width → is_out next j ≡ false → Told IsSame (rack.bytes old.rack (disk_number s j)) (rack.bytes new.rack (disk_number s j))
+    untouched j lt in0 = same-then _ _ _ (back.untouched j lt (ap (λ (o : Option Group). out_of o j) is ∙ out-is next j ∙ in0)) (leaves.same (disk_number s j))
+
+    numbers : IsOpened (opens.opens.fronts s) new.width s next → (new.width ≡ group.disks) × (next.length ≡ group.length)
+    numbers o =
+        let least : 3 ≤ new.width = subst (λ (k : ℕ). 3 ≤ k) o.disks next.least in
+        let most : new.width ≤ 8 = subst (λ (k : ℕ). k ≤ 8) o.disks next.most in
+        let both = both-in group next alive0 alive in
+        same-numbers rack s new.width both.0 group next old.rack before new.rack (opens.opens.fronts s) of.number most (of.kept.numbers alive0)
+        (λ j lt. opens.opens.found s j (omega (arith, few, opens.opens.count)) lt) o (omega (arith, both.1, group.least)) (omega (arith, both.1, least)) both.2 both.3
+        (untouched both.0 (omega (arith, both.1, least, wide)) both.3) (back.tell both.0 (omega (arith, both.1, least, wide)))
+
     again : IsOpenedOr rack new.rack (opens.opens.fronts s) new.width s next → Again s back.width old.rack before new.rack group next
     again (inr none) = absurd (false≢true (sym alive ∙ none.1.lost))
     again (inl over) = record {
       of = of;
       number = over.by.number;
-      width = sym (ap width_of was) ∙ held.widths s back.there ∙ ap of-nat back.width_was;
-      width_is = over.by.disks ∙ ap of-nat back.width_is;
-      size = sym (ap size_of (member-group new.groups s ∙ is)) ∙ back.size ∙ ap size_of (member-group old.groups s ∙ was);
-      untouched = λ j lt in0. same-then _ _ _ (back.untouched j lt (ap (λ (o : Option Group). out_of o j) is ∙ out-is next j ∙ in0)) (leaves.same (disk_number s j));
+      width = sym (numbers over.by).0 ∙ wide;
+      width_is = over.by.disks ∙ wide;
+      size = (numbers over.by).1;
+      untouched = untouched;
       tell = back.tell;
       alive = alive;
       ins = ins;
@@ -183,7 +182,7 @@ module _ {R : Type 0} (rack : Ghosts R) where
         ∙ sym (member-told rack old.groups old.rack s group was)
 
   pub reads-on-array : (before : R) (new : Grouped R) → OpensArray rack before new → LeavesRead rack (disk_number 0 0) (disk_number 16 0) before new.rack → ReadsOn rack before (OfGroups new)
-  reads-on-array before new opens leaves (Plain old) s held back some = absurd (no-width back.width back.width_was)
+  reads-on-array before new opens leaves (Plain old) s held back some = absurd (omega (arith, back.there))
   reads-on-array before new opens leaves (OfGroups old) s held back some = array-on before old new s held opens leaves back some
 
   pub reads-on-plain : (before now : R) → ReadsOn rack before (Plain now)

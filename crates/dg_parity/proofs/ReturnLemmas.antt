@@ -1,5 +1,5 @@
 -- A disk that comes back, whole.
-use Rattle.std.proofs.Common.{◌≡◌, ℕ, ◌<◌, ◌≤◌, false, List, sym, ap, subst, ◌∙◌}
+use Rattle.std.proofs.Common.{◌≡◌, ℕ, ◌<◌, ◌≤◌, true, false, List, sym, ap, subst, ◌∙◌}
 use Rattle.std.specs.Prelude.{IsSome, ◌&&◌}
 use Rattle.std.proofs.lemmas.Bool.{and_parts}
 use Rattle.dg_io.specs.Told.{Told, IsSame}
@@ -10,6 +10,7 @@ use Rattle.dg_parity.specs.Kept.{all_told, made_by, bytes_in, IsKept}
 use Rattle.dg_parity.specs.Mends.{FilledTo, LeavesBut}
 use Rattle.dg_parity.specs.declared.groups.Group.{Group}
 use Rattle.dg_parity.proofs.CallLemmas.{told-back}
+use Rattle.dg_parity.proofs.GroupLemmas.{heads-numbered}
 use Rattle.dg_parity.proofs.KeptLemmas.{told-each, kept-of, kept-stands, stands-is}
 use Rattle.dg_parity.proofs.KeptSteps.{each-told, told-if, both-true}
 use Rattle.dg_parity.proofs.MemberSteps.{stands-along}
@@ -22,6 +23,7 @@ pub record Returned {S : Type 0} (rack : Ghosts S) (j : ℕ) (old mid new : Grou
   pub filled : (has : ℕ → ℕ → ℕ) → AllTold rack old t → Holds rack old s has → IsEven old.disks old.length has → FilledTo rack old t j has (stripes_of old.disks old.length)
   pub unmarks : Unmarks old mid j
   pub leaves : LeavesGroup rack mid new t u
+  pub noted : is_lost new ≡ false → new.noted ≡ true
   pub heads : (has : ℕ → ℕ → ℕ) → AllTold rack new u → Holds rack mid t has → Holds rack new u has
 
 told-mid : {S : Type 0} (rack : Ghosts S) (j : ℕ) (old mid new : Group) (s t u : S) → Returned rack j old mid new s t u → AllTold rack new u → AllTold rack old t
@@ -50,7 +52,7 @@ returned-stands rack j old mid new s t u bytes h all stands =
 
 pub returned-kept : {S : Type 0} (rack : Ghosts S) (j : ℕ) (old mid new : Group) (s t u : S) → is_lost old ≡ false → Returned rack j old mid new s t u → IsKept rack old s → IsKept rack new u
 returned-kept rack j old mid new s t u alive h kept =
-    kept-of rack new u (member_by old.disks old.length (made_by rack old s)) (λ in0. h.leaves.ready) (λ in0 all.
+    kept-of rack new u (member_by old.disks old.length (made_by rack old s)) (λ in0. h.leaves.ready) (λ in0. heads-numbered rack new u h.leaves.ready (h.noted in0)) (λ in0 all.
     returned-stands rack j old mid new s t u (member_by old.disks old.length (made_by rack old s)) h all (kept-stands rack old s alive kept (returned-told rack j old mid new s t u h all)))
 
 pub returned-same : {S : Type 0} (rack : Ghosts S) (j : ℕ) (old mid new : Group) (s t u : S) → 3 ≤ old.disks → is_lost old ≡ false → is_lost new ≡ false → mid.told ≡ old.told
@@ -69,9 +71,9 @@ returned-same rack j old mid new s t u least alive0 alive told h kept =
 pub returned-of : {S : Type 0} (rack : Ghosts S) (j count : ℕ) (old g mid new : Group) (s t u : S) → g ≡ old → count ≡ stripes_of old.disks old.length → LeavesBut rack j old g s t
     → ((has : ℕ → ℕ → ℕ) → AllTold rack g t → Holds rack old s has → Holds rack g t has)
     → ((has : ℕ → ℕ → ℕ) → AllTold rack g t → Holds rack old s has → IsEven old.disks old.length has → FilledTo rack g t j has count)
-    → Unmarks g mid j → LeavesGroup rack mid new t u → ((has : ℕ → ℕ → ℕ) → AllTold rack new u → Holds rack mid t has → Holds rack new u has)
+    → Unmarks g mid j → LeavesGroup rack mid new t u → (is_lost new ≡ false → new.noted ≡ true) → ((has : ℕ → ℕ → ℕ) → AllTold rack new u → Holds rack mid t has → Holds rack new u has)
     → Returned rack j old mid new s t u
-returned-of rack j count old g mid new s t u is all fill holds filled unmarks leaves heads =
+returned-of rack j count old g mid new s t u is all fill holds filled unmarks leaves noted heads =
     subst (λ (k : Group). LeavesBut rack j old k s t
     → ((has : ℕ → ℕ → ℕ) → AllTold rack k t → Holds rack old s has → Holds rack k t has)
     → ((has : ℕ → ℕ → ℕ) → AllTold rack k t → Holds rack old s has → IsEven old.disks old.length has → FilledTo rack k t j has count)
@@ -82,6 +84,7 @@ returned-of rack j count old g mid new s t u is all fill holds filled unmarks le
       filled = λ has told held even. subst (λ (n : ℕ). FilledTo rack old t j has n) all (x has told held even);
       unmarks = m;
       leaves = leaves;
+      noted = noted;
       heads = heads;
     }) fill holds filled unmarks
 
@@ -89,7 +92,7 @@ returned-of rack j count old g mid new s t u is all fill holds filled unmarks le
 pub unfilled-kept : {S : Type 0} (rack : Ghosts S) (j : ℕ) (old new : Group) (s t : S) → is_lost old ≡ false → LeavesBut rack j old new s t
     → ((has : ℕ → ℕ → ℕ) → AllTold rack new t → Holds rack old s has → Holds rack new t has) → IsKept rack old s → IsKept rack new t
 unfilled-kept rack j old new s t alive leaves holds kept =
-    kept-of rack new t (member_by old.disks old.length (made_by rack old s)) (λ in0. leaves.ready) (λ in0 all.
+    kept-of rack new t (member_by old.disks old.length (made_by rack old s)) (λ in0. leaves.ready) (λ in0. leaves.numbers (kept.numbers alive)) (λ in0 all.
     stands-along rack old new s t (member_by old.disks old.length (made_by rack old s)) leaves.later (λ has held. holds has all held)
     (kept-stands rack old s alive kept (but-back rack j old new s t leaves all)))
 

@@ -6,8 +6,8 @@ use Rattle.std.proofs.lemmas.Bool.Decides.{nat_tests}
 use Rattle.std.proofs.lemmas.List.{get_or-take, get_or-drop}
 use Rattle.std.proofs.lemmas.Nat.{div-add-mod', mod_below, div-mul-add, le-div}
 use Rattle.std.proofs.Math.Nat.{add-mul, mul-div_cancel, div-mul-le_self}
-use Rattle.dg_parity.specs.Stripes.{beside, stripe_of, parity_of, place_of, spot_of, disk_of}
-use Rattle.dg_parity.specs.Runs.{among, chunk_on, byte_on, stripe_at, begins, IsWindow, Scatters}
+use Rattle.dg_parity.specs.Stripes.{beside, stripe_of, parity_of, spot_of}
+use Rattle.dg_parity.specs.Runs.{among, chunk_on, begins, IsWindow, Scatters}
 use Rattle.dg_parity.specs.declared.windows.Window.{Window}
 use Rattle.dg_parity.proofs.StripeLemmas.{spot-apart}
 

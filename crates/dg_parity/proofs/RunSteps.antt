@@ -6,11 +6,10 @@ use Rattle.std.proofs.lemmas.List.{length-take}
 use Rattle.std.proofs.lemmas.Bool.{cases_eq, cases_Bool, false≢true}
 use Rattle.std.proofs.lemmas.Bool.Decides.{nat_tests}
 use Rattle.std.specs.Int.Bits.{xor_zero_l, xor_zero_r}
-use Rattle.dg_io.specs.DiskAnswers.{count_upto}
 use Rattle.dg_io.specs.declared.outside.Rack.{Ghosts}
 use Rattle.dg_parity.specs.Exclusive.{xor_upto, with_at}
-use Rattle.dg_parity.specs.Stripes.{spot_of, stripe_of, stripes_of, disk_length, IsEven}
-use Rattle.dg_parity.specs.Groups.{is_out, is_lost, in_of, in_upto, length_of, FellOne, IsLater, MostCalls}
+use Rattle.dg_parity.specs.Stripes.{spot_of, stripe_of, disk_length, IsEven}
+use Rattle.dg_parity.specs.Groups.{is_out, is_lost, in_of, in_upto, length_of, FellOne, IsLater, MostCalls, StaysOrFell}
 use Rattle.dg_parity.specs.Runs.{IsWindow, ReadsOn, ReadsUpto, ScattersRow, passes_in, runs_of}
 use Rattle.dg_parity.specs.declared.groups.Group.{Group}
 use Rattle.dg_parity.specs.declared.windows.Window.{Window}
@@ -19,7 +18,7 @@ use Rattle.dg_parity.proofs.CountLemmas.{mul-next}
 use Rattle.dg_parity.proofs.ExclusiveLemmas.{with-same, with-other, xor-others}
 use Rattle.dg_parity.proofs.PartLemmas.{others-in, two-out, made-up}
 use Rattle.dg_parity.proofs.RunLemmas.{stripe-up, window-low, window-high}
-use Rattle.dg_parity.proofs.StripeLemmas.{disk-below, stripe-below}
+use Rattle.dg_parity.proofs.StripeLemmas.{stripe-below}
 
 pub window-same : (n m at a b : ℕ) (window : Window) → n ≡ m → a ≡ b → IsWindow n at a window → IsWindow m at b window
 window-same n m at a b window e f h = subst (λ (k : ℕ). IsWindow k at b window) e (subst (λ (k : ℕ). IsWindow n at k window) f h)
@@ -61,6 +60,17 @@ lost-fell old new o later out fell =
 
 pub fell-later : (a b c : Group) → IsLater b c → FellOne a b → FellOne a c
 fell-later a b c later fell = record { disk = fell.disk; before = fell.before; now = later.grows fell.disk fell.now }
+
+-- calls one after the other
+pub stays-then : (a b c : Group) → IsLater b c → StaysOrFell a b → StaysOrFell b c → StaysOrFell a c
+stays-then a b c later (inl e) (inl f) = inl (f ∙ e)
+stays-then a b c later (inl e) (inr fell) = inr (subst (λ (k : Group). FellOne k c) e fell)
+stays-then a b c later (inr fell) step = inr (fell-later a b c later fell)
+
+-- no disk went out, and none later
+pub still-of : (a b c : Group) → IsLater b c → ((j : ℕ) → is_out a j ≡ false → is_out c j ≡ false) → StaysOrFell a b → b ≡ a
+still-of a b c later none (inl e) = e
+still-of a b c later none (inr fell) = absurd (false≢true (sym (none fell.disk fell.before) ∙ later.grows fell.disk fell.now))
 
 pub fell-from : (a b c : Group) → b ≡ a → FellOne b c → FellOne a c
 fell-from a b c e fell = subst (λ (k : Group). FellOne k c) e fell

@@ -6,6 +6,20 @@ use Rattle.dg_io.specs.RackWords.{After}
 use Rattle.dg_io.specs.declared.outside.Rack.{Ghosts}
 use Rattle.dg_parity.specs.Arrays.{Grouped, GroupedMade, grouped_bytes, grouped_counts, grouped_disks, grouped_keeps, grouped_name, grouped_stands, grouped_steady, grouped_tells, grouped_words}
 
+-- the words of a rack of groups, all of them
+abbrev pub grouped_rack : {R : Type 0} → Ghosts R → Ghosts (Grouped R)
+grouped_rack rack = record {
+  name = grouped_name rack;
+  bytes = grouped_bytes rack;
+  counts = grouped_counts rack;
+  stands = grouped_stands rack;
+  steady = grouped_steady rack;
+  tells = grouped_tells rack;
+  keeps = grouped_keeps rack;
+  disks = grouped_disks rack;
+  made = GroupedMade rack;
+}
+
 module _ {R : Type 0} (rack : Ghosts R) where
   pub grouped_none : (s : Grouped R) → GroupedMade rack s [] s
   grouped_none s = record {

@@ -166,6 +166,13 @@ grouped_keeps rack it kept = ⊥
 abbrev pub grouped_disks : {R : Type 0} → Ghosts R → Grouped R → DiskStates
 grouped_disks rack it = states_in rack it.groups it.rack
 
+-- how many disks a group has, and how many groups there are
+abbrev pub grouped_width : {R : Type 0} → Grouped R → Option ℕ
+grouped_width it = Some it.width
+
+abbrev pub grouped_groups : {R : Type 0} → Grouped R → ℕ
+grouped_groups it = length it.groups
+
 -- the words together. What may have become of it by just some calls is what these leave.
 abbrev pub grouped_words : {R : Type 0} → Ghosts R → Ghosts (Grouped R)
 grouped_words rack = record {
@@ -212,6 +219,21 @@ pub record IsNewGroup (n s : ℕ) (group : Group) : Type 0 where
 -- each disk of group s tells its bytes
 abbrev pub DisksTell : {R : Type 0} → Ghosts R → R → ℕ → ℕ → Type 0
 DisksTell rack now n s = (j : ℕ) → j < n → IsSome (rack.bytes now (disk_number s j))
+
+-- whether the headers of a member's group say which of its disks are out
+abbrev pub is_noted : Option Group → Bool
+is_noted None = false
+is_noted (Some group) = group.noted
+
+-- What a call leaves of what headers say, and of what is told. Where the headers of a group said which of its disks are out, they say so; and a member that
+-- told its bytes tells them, where each disk of its group tells its own: both while at most one disk of the group is out.
+pub record GoesOn {S : Type 0} (rack : Ghosts S) (old new : List Group) (before now : S) : Type 0 where
+  pub noted : (q : ℕ) → is_noted (group_at old q) ≡ true → serves new q ≡ true → is_noted (group_at new q) ≡ true
+  pub tells : (q : ℕ) → IsSome (told_at rack old before q) → serves new q ≡ true → DisksTell rack now (width_at new (q / 2)) (q / 2) → IsSome (told_at rack new now q)
+
+-- no disk of member q's group went out
+abbrev pub NoneFell : List Group → List Group → ℕ → Type 0
+NoneFell old new q = (j : ℕ) → out_of (slice_get old (q / 2)) j ≡ false → out_of (slice_get new (q / 2)) j ≡ false
 
 -- The member of a group that was never made has no byte, where each of the group's disks tells its own.
 abbrev pub TellsNone : {R : Type 0} → Ghosts R → Grouped R → Type 0

@@ -1,5 +1,5 @@
 -- What a group leaves on its disks, and what the next opening makes of it. The rules are this project's own.
-use Rattle.std.specs.Prelude.{◌≡◌, ◌<◌, ◌≤◌, ◌^◌, ℕ, true, false, IfSome, IsSome}
+use Rattle.std.specs.Prelude.{◌≡◌, ◌<◌, ◌^◌, ℕ, true, false, IfSome, IsSome}
 use Rattle.dg_model.specs.Causes.{Rose}
 use Rattle.dg_io.specs.Told.{Told, IsSame}
 use Rattle.dg_io.specs.declared.outside.Rack.{Ghosts}
@@ -8,11 +8,9 @@ use Rattle.dg_parity.specs.Openings.{HasFront}
 use Rattle.dg_parity.specs.declared.groups.Group.{Group}
 use Rattle.dg_parity.specs.declared.headers.Header.{Header}
 
--- its numbers fit in a header that counts
-pub record IsCountable (group : Group) : Type 0 where
-  pub first : 1 ≤ group.epoch
-  pub last : group.epoch < 2 ^ 63
-  pub sized : group.length < 2 ^ 64
+-- its epoch is one of a header that counts
+abbrev pub IsCountable : Group → Type 0
+IsCountable group = group.epoch < 2 ^ 63
 
 -- The disks as a group left them: those that weren't out have the bytes that they had, and on each that was out a header of the group's width that
 -- counts is of a lower epoch, if there is one. All of them are told.

@@ -5,7 +5,7 @@ use Rattle.dg_model.specs.States.{CountsRise}
 use Rattle.dg_io.specs.Told.{Told, IsSame, StillTold, Extended}
 use Rattle.dg_io.specs.declared.outside.Rack.{Ghosts}
 use Rattle.dg_parity.specs.Blanks.{LeavesOthers}
-use Rattle.dg_parity.specs.Groups.{disk_number, is_out, is_sure, length_of, AllTold, IsReady, Holds, IsLater}
+use Rattle.dg_parity.specs.Groups.{disk_number, is_lost, is_out, is_sure, length_of, AllTold, IsReady, Holds, IsLater}
 use Rattle.dg_parity.specs.declared.groups.Group.{Group}
 
 -- what the disks have once they are longer: zeros from a place on
@@ -47,6 +47,7 @@ pub record GrowsTo {S : Type 0} (rack : Ghosts S) (size : ℕ) (old new : Group)
   pub size_is : new.length ≡ size
   pub grows : (j : ℕ) → is_out old j ≡ true → is_out new j ≡ true
   pub told : new.told ≡ true → old.told ≡ true
+  pub telling : old.told ≡ true → is_lost new ≡ false → new.told ≡ true
   pub sure : is_sure new ≡ is_sure old
   pub ready : IsReady rack new now
   pub cause : (j : ℕ) → j < old.disks → is_out old j ≡ false → is_out new j ≡ true

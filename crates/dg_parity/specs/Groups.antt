@@ -1,12 +1,12 @@
 -- A group: the state that is kept of it, and what its disks stand for in the rack.
-use Rattle.std.specs.Prelude.{◌≡◌, ◌≢◌, ◌↔◌, ◌+◌, ◌*◌, ◌<◌, ◌≤◌, nat_le, not, ℕ, List, [], ◌∷◌, Bool, true, false, Option, None, Some, IsSome}
+use Rattle.std.specs.Prelude.{◌≡◌, ◌≢◌, ◌⊎◌, ◌↔◌, ◌+◌, ◌*◌, ◌<◌, ◌≤◌, nat_le, not, ℕ, List, [], ◌∷◌, Bool, true, false, Option, None, Some, IsSome}
 use Rattle.std.specs.Prelude.{IfSome, length, take, slice_index, slice_index_or, count_by}
 use Rattle.dg_model.specs.Causes.{Rose}
 use Rattle.dg_model.specs.States.{CountsRise}
 use Rattle.dg_io.specs.DiskAnswers.{count_upto}
 use Rattle.dg_io.specs.Told.{Told, IsSame, StillTold}
 use Rattle.dg_io.specs.declared.outside.Rack.{Ghosts}
-use Rattle.dg_parity.specs.Headers.{header_bytes, marks_of}
+use Rattle.dg_parity.specs.Headers.{header_bytes, marks_of, IsHeader}
 use Rattle.dg_parity.specs.Stripes.{disk_length, InStripes, IsClear, IsEven, member_by}
 use Rattle.dg_parity.specs.declared.groups.Group.{Group}
 use Rattle.dg_parity.specs.declared.headers.Header.{Header}
@@ -70,11 +70,29 @@ header_in group j = record {
 abbrev pub HasHead : {S : Type 0} → Ghosts S → Group → S → ℕ → Type 0
 HasHead rack group now j = IfSome (rack.bytes now (disk_number group.number j)) (λ all. take 512 all ≡ header_bytes (header_in group j))
 
--- Each disk that isn't out stands, and has its length where it tells its bytes; and it begins with its header, where that was noted.
+-- Each disk that isn't out stands, and has its length where it tells its bytes; and it begins with its header, where that was noted. The first epoch
+-- is 1.
 pub record IsReady {S : Type 0} (rack : Ghosts S) (group : Group) (now : S) : Type 0 where
+  pub first : group.noted ≡ true → 1 ≤ group.epoch
   pub stands : (j : ℕ) → j < group.disks → is_out group j ≡ false → rack.stands now (disk_number group.number j) ≡ true
   pub room : (j : ℕ) → j < group.disks → is_out group j ≡ false → IfSome (rack.bytes now (disk_number group.number j)) (λ all. length all ≡ length_of group)
   pub heads : group.noted ≡ true → (j : ℕ) → j < group.disks → is_out group j ≡ false → HasHead rack group now j
+
+-- a page is a header of disk j with the group's number, width and length, and of no greater epoch, whichever disks it marks
+pub record IsNumbered (it : Group) (j : ℕ) (page : List ℕ) : Type 0 where
+  pub header : Header
+  pub bytes : page ≡ header_bytes header
+  pub fits : IsHeader header
+  pub group : header.group ≡ it.number
+  pub place : header.place ≡ j
+  pub width : header.disks ≡ it.disks
+  pub size : header.size ≡ it.length
+  pub epoch : header.epoch ≤ it.epoch
+
+-- each disk that isn't out begins with such a header, where it tells its bytes
+abbrev pub AreNumbered : {S : Type 0} → Ghosts S → Group → S → Type 0
+AreNumbered rack group now = (j : ℕ) → j < group.disks → is_out group j ≡ false
+    → IfSome (rack.bytes now (disk_number group.number j)) (λ all. IsNumbered group j (take 512 all))
 
 -- each disk that isn't out has these bytes in its stripes
 pub record Holds {S : Type 0} (rack : Ghosts S) (group : Group) (now : S) (has : ℕ → ℕ → ℕ) : Type 0 where
@@ -87,8 +105,9 @@ pub record IsLater (old new : Group) : Type 0 where
   pub size : new.length ≡ old.length
   pub grows : (j : ℕ) → is_out old j ≡ true → is_out new j ≡ true
   pub epoch : old.epoch ≤ new.epoch
-  -- what tells now told before
+  -- what tells now told before, and what told tells on, unless it is lost
   pub told : new.told ≡ true → old.told ≡ true
+  pub telling : old.told ≡ true → is_lost new ≡ false → new.told ≡ true
   pub sure : is_sure new ≡ is_sure old
 
 -- q is none of the disks of the group that aren't out
@@ -102,6 +121,7 @@ pub record LeavesGroup {S : Type 0} (rack : Ghosts S) (old new : Group) (before 
   pub cause : (j : ℕ) → j < old.disks → is_out old j ≡ false → is_out new j ≡ true
       → Rose ((rack.counts before).faults (disk_number old.number j)) ((rack.counts now).faults (disk_number old.number j))
   pub ready : IsReady rack new now
+  pub numbers : AreNumbered rack old before → AreNumbered rack new now
   -- what isn't a disk of the group, or is out, wasn't called
   pub others : (q : ℕ) → IsApart old q → Told IsSame (rack.bytes before q) (rack.bytes now q)
   pub other_faults : (q : ℕ) → IsApart old q → (rack.counts now).faults q ≡ (rack.counts before).faults q
@@ -172,6 +192,10 @@ pub record FellOne (old new : Group) : Type 0 where
   pub disk : ℕ
   pub before : is_out old disk ≡ false
   pub now : is_out new disk ≡ true
+
+-- the same group, unless a disk of it went out
+abbrev pub StaysOrFell : Group → Group → Type 0
+StaysOrFell old new = (new ≡ old) ⊎ FellOne old new
 
 -- so many calls were counted at most
 abbrev pub MostCalls : {S : Type 0} → Ghosts S → ℕ → S → S → Type 0

@@ -4,7 +4,7 @@ use Rattle.dg_io.specs.declared.outside.Rack.{Ghosts}
 use Rattle.dg_model.specs.Causes.{Rose}
 use Rattle.dg_model.specs.States.{CountsRise}
 use Rattle.dg_io.specs.Told.{Told, IsSame, StillTold}
-use Rattle.dg_parity.specs.Groups.{disk_number, is_out, length_of, disk_in, IsLater, IsReady, IsApart}
+use Rattle.dg_parity.specs.Groups.{disk_number, is_out, length_of, disk_in, AreNumbered, IsLater, IsReady, IsApart}
 use Rattle.dg_parity.specs.declared.groups.Group.{Group}
 
 -- disk j has its bytes in the first t stripes
@@ -22,6 +22,7 @@ pub record LeavesBut {S : Type 0} (rack : Ghosts S) (j : ℕ) (old new : Group) 
   pub cause : (i : ℕ) → i < old.disks → is_out old i ≡ false → is_out new i ≡ true
       → Rose ((rack.counts before).faults (disk_number old.number i)) ((rack.counts now).faults (disk_number old.number i))
   pub ready : IsReady rack new now
+  pub numbers : AreNumbered rack old before → AreNumbered rack new now
   pub others : (q : ℕ) → IsApart old q → q ≢ disk_number old.number j → Told IsSame (rack.bytes before q) (rack.bytes now q)
   pub other_faults : (q : ℕ) → IsApart old q → q ≢ disk_number old.number j → (rack.counts now).faults q ≡ (rack.counts before).faults q
   pub others_stand : (q : ℕ) → IsApart old q → q ≢ disk_number old.number j → rack.stands before q ≡ true → rack.stands now q ≡ true

@@ -5,7 +5,7 @@ use Rattle.dg_io.specs.Kept.{Kept}
 use Rattle.dg_io.specs.RackCalls.{RackCall}
 use Rattle.dg_io.specs.declared.outside.Rack.{Ghosts}
 use Rattle.dg_model.specs.States.{Counts}
-use Rattle.dg_parity.specs.Arrays.{Grouped, GroupedMade, IsNewOver, group_at, grouped_bytes, grouped_counts, grouped_disks, grouped_keeps, grouped_name, grouped_stands, grouped_steady, grouped_tells, is_fallen, serves, size_at}
+use Rattle.dg_parity.specs.Arrays.{Grouped, GroupedMade, IsNewOver, group_at, grouped_bytes, grouped_counts, grouped_disks, grouped_keeps, grouped_name, grouped_stands, grouped_steady, grouped_tells, is_fallen, is_noted, serves, size_at}
 use Rattle.dg_parity.specs.declared.parity_racks.ParityRack.{ParityRack}
 use Rattle.dg_parity.specs.declared.parity_racks.ParityRack.TheVariants.{Plain, OfGroups}
 
@@ -77,6 +77,10 @@ pub record IsShaped {R : Type 0} (old new : ParityRack R) : Type 0 where
 -- fewer than two disks of the member's group are out. Of a plain rack this says nothing
 abbrev pub IsServed : {R : Type 0} → ParityRack R → ℕ → Type 0
 IsServed = either (λ it q. Unit {0}) (λ it q. serves it.groups q ≡ true)
+
+-- the headers of the member's group say which of its disks are out. Of a plain rack this says nothing
+abbrev pub IsNoted : {R : Type 0} → ParityRack R → ℕ → Type 0
+IsNoted = either (λ it q. Unit {0}) (λ it q. is_noted (group_at it.groups q) ≡ true)
 
 -- two disks of the member's group are out, or it has none
 abbrev pub IsUnserved : {R : Type 0} → ParityRack R → ℕ → Type 0

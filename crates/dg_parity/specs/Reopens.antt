@@ -6,7 +6,7 @@ use Rattle.dg_parity.specs.Stripes.{member_by}
 use Rattle.dg_parity.specs.Groups.{disk_number, is_lost}
 use Rattle.dg_parity.specs.Kept.{made_by}
 use Rattle.dg_parity.specs.Sound.{is_sound}
-use Rattle.dg_parity.specs.Arrays.{DisksTell, Grouped, HasNoCalls, IsHeld, TellsNone, grouped_bytes, size_at}
+use Rattle.dg_parity.specs.Arrays.{DisksTell, Grouped, HasNoCalls, IsHeld, TellsNone, grouped_bytes}
 use Rattle.dg_parity.specs.Openings.{OpensGroups, OpensPlain}
 use Rattle.dg_parity.specs.ParityRacks.{IsServed, either, groups_in, parity_bytes, parity_disks, width_in}
 use Rattle.dg_parity.specs.declared.groups.Group.{Group}
@@ -37,18 +37,12 @@ TellsSound rack it = (s : ℕ) (group : Group) → slice_get it.groups s ≡ Som
 abbrev pub TellsMembers : {R : Type 0} → Ghosts R → ParityRack R → Type 0
 TellsMembers rack = either (λ now. Unit {0}) (λ it. TellsSound rack it × TellsNone rack it)
 
--- how many bytes the member of group s has, none of a plain rack
-abbrev pub size_in : {R : Type 0} → ParityRack R → ℕ → ℕ
-size_in rack s = either (λ it. 0) (λ it. size_at it.groups (2 * s)) rack
-
--- Group s is there again, in an array of the same width, with a member of the same length. At most one of its disks is out, and each that is in was in
--- and has the bytes that it had.
+-- Group s is there again. At most one of its disks is out, and each that is in was in and has the bytes that it had. The width of the array is the one
+-- that the opening found.
 pub record IsBack {R : Type 0} (rack : Ghosts R) (s : ℕ) (old : ParityRack R) (before : R) (new : ParityRack R) : Type 0 where
   pub width : ℕ
-  pub width_was : width_in old ≡ Some width
   pub width_is : width_in new ≡ Some width
   pub there : s < groups_in old
-  pub size : size_in new s ≡ size_in old s
   pub untouched : (j : ℕ) → j < width → (parity_disks rack new).out s j ≡ false → Told IsSame (rack.bytes (behind old) (disk_number s j)) (rack.bytes before (disk_number s j))
   pub tell : DisksTell rack (behind new) width s
   pub served : IsServed new (2 * s)

@@ -1,7 +1,7 @@
 -- Runs of chunks: which chunk stands where, and in how many passes bytes of a member are read or written. The rules are this project's own.
 use Rattle.std.specs.Prelude.{◌≡◌, ◌≢◌, ◌+◌, ◌-◌, ◌*◌, ◌/◌, ◌%◌, ◌<◌, ◌≤◌, ◌&&◌, ◌==◌, nat_le, nat_lt, bit_xor, ℕ, zero, suc, Bool, false, List, length, slice_index, if◌then◌else◌}
 use Rattle.dg_parity.specs.Exclusive.{xor_upto, with_at}
-use Rattle.dg_parity.specs.Stripes.{parity_of, place_of, spot_of, stripe_of}
+use Rattle.dg_parity.specs.Stripes.{parity_of, spot_of, stripe_of}
 use Rattle.dg_parity.specs.declared.windows.Window.{Window}
 
 -- the number of disk j among those other than p

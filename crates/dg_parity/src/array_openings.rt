@@ -1,5 +1,5 @@
 // What an opening finds on the disks of all groups.
-ghost use Rattle.std.specs.Prelude.{◌≡◌, ◌⊎◌, ◌+◌, ◌<◌, ◌≤◌, ℕ, None, IfOk, IfSome, length};
+ghost use Rattle.std.specs.Prelude.{◌≡◌, ◌<◌, ◌≤◌, ℕ, None, IfOk, IfSome, length};
 ghost use Rattle.dg_parity.specs.Arrays.{IsHeld};
 ghost use Rattle.dg_parity.specs.Groups.{disk_number, MostCalls};
 ghost use Rattle.dg_parity.specs.Openings.{AreFound, AreOpened, IsFirst, IsOpenedOr, IsWidth, LeavesRead, OpensGroups, OpensPlain, fronts_by, fronts_in};

@@ -101,9 +101,9 @@ impl<R: Rack> Rack for GroupRack<R> {
     ghost use Rattle.dg_io.specs.Kept.{KeepsRest};
     ghost use Rattle.dg_io.specs.RackCalls.{RackCall};
     ghost use Rattle.dg_io.specs.Told.{Told, IsSame, IsZeros, Measures, IsEmpty, Reads, Patched, Torn, FitsIn, Extended, KeepsFront, IsHeader, OldOrNew};
-    ghost use Rattle.dg_parity.specs.ArrayCalls.{reads_of, writes_of};
+    ghost use Rattle.dg_parity.specs.ArrayCalls.{quiet_reads_of, quiet_writes_of, reads_of, writes_of};
     ghost use Rattle.dg_parity.specs.Groups.{MostCalls};
-    ghost use Rattle.dg_parity.specs.Arrays.{IsShaped, group_at, is_fallen, serves, size_at};
+    ghost use Rattle.dg_parity.specs.Arrays.{GoesOn, IsShaped, NoneFell, group_at, is_fallen, is_noted, serves, size_at};
     ghost use Rattle.dg_parity.specs.Arrays.{GroupedMade, grouped_bytes, grouped_counts, grouped_disks, grouped_keeps, grouped_name, grouped_stands, grouped_steady, grouped_tells, grouped_words};
     ghost use Rattle.dg_parity.specs.ArrayLaws.{grouped_after, grouped_both, grouped_none};
 
@@ -134,6 +134,8 @@ impl<R: Rack> Rack for GroupRack<R> {
         ensures made { GroupedMade R.Rack self.old (RackCall.blanks member ∷ []) self.new }
         ensures writes { RoseByOne (grouped_counts R.Rack self.old).writes (grouped_counts R.Rack self.new).writes }
         ensures shape { IsShaped self.old self.new }
+        ensures noted { OnOk result (is_noted (group_at self.new.groups member) ≡ true) }
+        ensures goes_on { GoesOn R.Rack self.old.groups self.new.groups self.old.rack self.new.rack }
         ensures alive { OnOk result (serves self.new.groups member ≡ true) }
         ensures fails { OnErr result (serves self.new.groups member ≡ false) }
     {
@@ -152,6 +154,7 @@ impl<R: Rack> Rack for GroupRack<R> {
         ensures made { GroupedMade R.Rack self.old (RackCall.looks member ∷ []) self.new }
         ensures writes { (grouped_counts R.Rack self.new).writes ≡ (grouped_counts R.Rack self.old).writes }
         ensures shape { IsShaped self.old self.new }
+        ensures goes_on { GoesOn R.Rack self.old.groups self.new.groups self.old.rack self.new.rack }
         ensures fails { OnErr result (is_fallen (group_at self.new.groups member) ≡ true) }
     {
         let result = find_at(&self.groups, member);
@@ -169,6 +172,9 @@ impl<R: Rack> Rack for GroupRack<R> {
         ensures leaves { Leaves (grouped_words R.Rack) member result self.old self.new }
         ensures writes { (grouped_counts R.Rack self.new).writes ≡ (grouped_counts R.Rack self.old).writes }
         ensures shape { IsShaped self.old self.new }
+        ensures goes_on { GoesOn R.Rack self.old.groups self.new.groups self.old.rack self.new.rack }
+        ensures quiet { OnOk result (NoneFell self.old.groups self.new.groups member
+            → MostCalls R.Rack (quiet_reads_of (group_at self.old.groups member) place (length buf.old)) self.old.rack self.new.rack) }
         ensures alive { OnOk result (serves self.new.groups member ≡ true) }
         ensures fails { OnErr result ((serves self.new.groups member ≡ false) ⊎ (size_at self.old.groups member < place + length buf.old)) }
         ensures calls { MostCalls R.Rack (reads_of (group_at self.old.groups member) place (length buf.old)) self.old.rack self.new.rack }
@@ -190,6 +196,10 @@ impl<R: Rack> Rack for GroupRack<R> {
         ensures leaves { Leaves (grouped_words R.Rack) member result self.old self.new }
         ensures writes { RoseByOne (grouped_counts R.Rack self.old).writes (grouped_counts R.Rack self.new).writes }
         ensures shape { IsShaped self.old self.new }
+        ensures noted { OnOk result (is_noted (group_at self.new.groups member) ≡ true) }
+        ensures goes_on { GoesOn R.Rack self.old.groups self.new.groups self.old.rack self.new.rack }
+        ensures quiet { OnOk result (is_noted (group_at self.old.groups member) ≡ true → NoneFell self.old.groups self.new.groups member
+            → MostCalls R.Rack (quiet_writes_of (group_at self.old.groups member) place (length buf.now)) self.old.rack self.new.rack) }
         ensures alive { OnOk result (serves self.new.groups member ≡ true) }
         ensures fails { OnErr result ((serves self.new.groups member ≡ false) ⊎ (size_at self.old.groups member < place + length buf.now)) }
         ensures calls { MostCalls R.Rack (writes_of (group_at self.old.groups member) place (length buf.now)) self.old.rack self.new.rack }
@@ -209,6 +219,8 @@ impl<R: Rack> Rack for GroupRack<R> {
         ensures leaves { Leaves (grouped_words R.Rack) member result self.old self.new }
         ensures writes { RoseByOne (grouped_counts R.Rack self.old).writes (grouped_counts R.Rack self.new).writes }
         ensures shape { IsShaped self.old self.new }
+        ensures noted { OnOk result (is_noted (group_at self.new.groups member) ≡ true) }
+        ensures goes_on { GoesOn R.Rack self.old.groups self.new.groups self.old.rack self.new.rack }
         ensures alive { OnOk result (serves self.new.groups member ≡ true) }
         ensures fails { OnErr result ((serves self.new.groups member ≡ false) ⊎ (length < size_at self.old.groups member)) }
     {
@@ -229,17 +241,47 @@ impl<R: Rack> Rack for GroupRack<R> {
 }
 
 impl<R: Rack> Disks for GroupRack<R> {
-    ghost use Rattle.std.specs.Prelude.{Some, length};
+    ghost use Rattle.std.specs.Prelude.{◌≡◌, ◌↔◌, ◌<◌, ◌*◌, ℕ, None, IfSome, false, true, slice_get};
+    ghost use Rattle.dg_io.specs.DiskAnswers.{DropsDisk, LeavesMembers, MendsDisk, OneDisk};
+    ghost use Rattle.dg_parity.specs.ArrayCalls.{mends_of};
+    ghost use Rattle.dg_parity.specs.ArrayLaws.{grouped_rack};
+    ghost use Rattle.dg_parity.specs.Arrays.{GoesOn, group_at, grouped_disks, grouped_groups, grouped_width, is_noted};
+    ghost use Rattle.dg_parity.specs.Groups.{MostCalls};
 
-    ghost width = { λ it. Some it.width };
+    ghost width = { grouped_width };
 
-    ghost groups = { λ it. length it.groups };
+    ghost groups = { grouped_groups };
 
-    fn drop_disk(&mut self, s: u8, j: u8) -> DropAnswer {
+    /// The headers of the others say so, unless two disks of the group are out.
+    fn drop_disk(&mut self, s: u8, j: u8) -> DropAnswer
+        requires place { IfSome (grouped_width self.old) (λ n. (s < grouped_groups self.old) × (j < n)) }
+        ensures plain { (result ≡ DropAnswer.Plain) ↔ (grouped_width self.old ≡ None) }
+        ensures idle { grouped_width self.old ≡ None → self.new ≡ self.old }
+        ensures answer { IfSome (grouped_width self.old) (λ n. DropsDisk n s j (grouped_disks R.Rack self.old) (grouped_disks R.Rack self.new) result) }
+        ensures disks { OneDisk s j (grouped_disks R.Rack self.old) (grouped_disks R.Rack self.new) }
+        ensures leaves { LeavesMembers (grouped_rack R.Rack) self.old self.new }
+        ensures width { grouped_width self.new ≡ grouped_width self.old }
+        ensures groups { grouped_groups self.new ≡ grouped_groups self.old }
+        ensures noted { result ≡ DropAnswer.Dropped false → is_noted (group_at self.new.groups (2 * s)) ≡ true }
+        ensures goes_on { GoesOn R.Rack self.old.groups self.new.groups self.old.rack self.new.rack }
+    {
         drop_at(&mut self.groups, &mut self.rack, s, j)
     }
 
-    fn mend(&mut self, s: u8, j: u8) -> MendAnswer {
+    /// The headers say so.
+    fn mend(&mut self, s: u8, j: u8) -> MendAnswer
+        requires place { IfSome (grouped_width self.old) (λ n. (s < grouped_groups self.old) × (j < n)) }
+        ensures plain { (result ≡ MendAnswer.Plain) ↔ (grouped_width self.old ≡ None) }
+        ensures idle { grouped_width self.old ≡ None → self.new ≡ self.old }
+        ensures answer { IfSome (grouped_width self.old) (λ n. MendsDisk n s j (grouped_disks R.Rack self.old) (grouped_disks R.Rack self.new) result) }
+        ensures disks { OneDisk s j (grouped_disks R.Rack self.old) (grouped_disks R.Rack self.new) }
+        ensures leaves { LeavesMembers (grouped_rack R.Rack) self.old self.new }
+        ensures width { grouped_width self.new ≡ grouped_width self.old }
+        ensures groups { grouped_groups self.new ≡ grouped_groups self.old }
+        ensures noted { (c : ℕ) → result ≡ MendAnswer.Mended c → is_noted (group_at self.new.groups (2 * s)) ≡ true }
+        ensures goes_on { GoesOn R.Rack self.old.groups self.new.groups self.old.rack self.new.rack }
+        ensures calls { MostCalls R.Rack (mends_of (slice_get self.old.groups s)) self.old.rack self.new.rack }
+    {
         mend_at(&mut self.groups, &mut self.rack, s, j)
     }
 

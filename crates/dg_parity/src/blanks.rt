@@ -1,5 +1,5 @@
 // A group that is made anew.
-ghost use Rattle.std.specs.Prelude.{◌≡◌, ◌<◌, ◌≤◌, ℕ, Bool, true, false, not};
+ghost use Rattle.std.specs.Prelude.{◌≡◌, ◌<◌, ℕ, true, false, not};
 ghost use Rattle.std.specs.Bool.{OnTrue};
 ghost use Rattle.dg_model.specs.Causes.{Rose};
 ghost use Rattle.dg_io.specs.Told.{Told, IsZeros};
@@ -46,6 +46,7 @@ pub fn blank<R: Rack>(group: &mut Group, rack: &mut R, size: u64) -> bool
     ensures size { group.new.length ≡ size }
     ensures still { IsStill group.old group.new }
     ensures noted { OnTrue result (group.new.noted ≡ true) }
+    ensures telling { group.old.told ≡ true → is_lost group.new ≡ false → group.new.told ≡ true }
     ensures cause { (j : ℕ) → j < group.old.disks → is_out group.new j ≡ true
         → Rose ((R.counts rack.old).faults (disk_number group.old.number j)) ((R.counts rack.new).faults (disk_number group.old.number j)) }
     ensures silent { is_lost group.new ≡ true → group.new.told ≡ false }

@@ -1,6 +1,5 @@
 // Which header stands for a group, and the group that the headers make.
-ghost use Rattle.std.specs.Prelude.{◌≡◌, ◌⊎◌, ◌↔◌, ◌+◌, ◌<◌, ◌≤◌, ℕ, Bool, true, false, Option, None, Some, IfSome, IsTrue, slice_index_or};
-ghost use Rattle.dg_parity.specs.Headers.{marks_of};
+ghost use Rattle.std.specs.Prelude.{◌≡◌, ◌↔◌, ◌+◌, ◌<◌, ◌≤◌, ℕ, true, false, Option, None, Some, IfSome, IsTrue, slice_index_or};
 ghost use Rattle.dg_parity.specs.Openings.{IsBest, IsIn, IsOpened, HasNone, is_marked, fronts_in};
 ghost use Rattle.dg_parity.specs.declared.headers.Header.{Header};
 

@@ -1,9 +1,11 @@
 // Calls on one disk of a group.
-ghost use Rattle.std.specs.Prelude.{◌≡◌, ◌≢◌, ◌⊎◌, ◌+◌, ◌*◌, ◌<◌, ◌≤◌, ℕ, Bool, true, false, length, slice_index};
+#![tactic(auto, using(crate::proofs::GroupLemmas::leaves_none))]
+
+ghost use Rattle.std.specs.Prelude.{◌≡◌, ◌≢◌, ◌⊎◌, ◌+◌, ◌*◌, ◌<◌, ◌≤◌, ℕ, true, false, length, slice_index};
 ghost use Rattle.std.specs.Bool.{OnTrue, OnFalse};
 ghost use Rattle.dg_model.specs.Causes.{Rose};
 ghost use Rattle.dg_parity.specs.Stripes.{put};
-ghost use Rattle.dg_parity.specs.Groups.{is_out, is_lost, length_of, HasHead, FellOne, IsReady, Holds, AllTold, LeavesGroup, MostCalls, KeepsHeld};
+ghost use Rattle.dg_parity.specs.Groups.{is_out, is_lost, length_of, HasHead, FellOne, IsReady, Holds, AllTold, LeavesGroup, MostCalls, KeepsHeld, StaysOrFell};
 
 use crate::groups::Group;
 use crate::headers::{CHUNK, fill_header};
@@ -149,6 +151,7 @@ pub(crate) fn write_disk<R: Rack>(group: &mut Group, rack: &mut R, j: u8, place:
     ensures leaves { LeavesGroup R.Rack group.old group.new rack.old rack.new }
     ensures holds { (has : ℕ → ℕ → ℕ) → AllTold R.Rack group.new rack.new → Holds R.Rack group.old rack.old has
         → Holds R.Rack group.new rack.new (put has j place piece.now) }
+    ensures steady { StaysOrFell group.old group.new }
     ensures calls { MostCalls R.Rack 1 rack.old rack.new }
 {
     if group.is_out(j) {

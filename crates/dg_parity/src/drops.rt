@@ -1,5 +1,5 @@
 // A disk that goes out by itself.
-ghost use Rattle.std.specs.Prelude.{◌≡◌, ◌≢◌, ◌↔◌, ◌<◌, ℕ, Bool, true, false};
+ghost use Rattle.std.specs.Prelude.{◌≡◌, ◌≢◌, ◌↔◌, ◌<◌, Bool, true, false};
 ghost use Rattle.dg_io.specs.Told.{Told, IsSame};
 ghost use Rattle.dg_parity.specs.Blanks.{LeavesOthers};
 ghost use Rattle.dg_parity.specs.Groups.{is_out, is_lost, IsStill};
@@ -19,6 +19,7 @@ pub fn drop_disk<R: Rack>(group: &mut Group, rack: &mut R, j: u8) -> DropAnswer
     ensures already { (result ≡ DropAnswer.Already) ↔ (is_out group.old j ≡ true) }
     ensures lost { (b : Bool) → result ≡ DropAnswer.Dropped b → b ≡ is_lost group.new }
     ensures still { IsStill group.old group.new }
+    ensures telling { group.old.told ≡ true → is_lost group.new ≡ false → group.new.told ≡ true }
     ensures idle { is_out group.old j ≡ true → (group.new ≡ group.old) × (rack.new ≡ rack.old) }
     ensures fall { FallBut R.Rack j group.old group.new rack.old rack.new }
     ensures leaves { LeavesOthers R.Rack group.old rack.old rack.new }

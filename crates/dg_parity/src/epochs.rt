@@ -2,7 +2,7 @@
 ghost use Rattle.std.specs.Prelude.{◌≡◌, ◌*◌, ◌<◌, ◌≤◌, ℕ, true, false, Option, Some, slice_get};
 ghost use Rattle.dg_parity.specs.Arrays.{DisksTell, Grouped, IsHeld, serves};
 ghost use Rattle.dg_parity.specs.Epochs.{IsCountable, IsLeft, IsReopened};
-ghost use Rattle.dg_parity.specs.Groups.{disk_number, is_out, is_lost, is_sure, AllTold, IsReady};
+ghost use Rattle.dg_parity.specs.Groups.{disk_number, is_lost, is_sure, AllTold, IsReady};
 ghost use Rattle.dg_parity.specs.Kept.{bytes_in, IsKept};
 ghost use Rattle.dg_parity.specs.Openings.{HasWidth, IsFound, IsOpened, LeavesRead};
 ghost use Rattle.dg_parity.specs.Reopens.{IsBack, OpensArray};
@@ -29,13 +29,13 @@ pub fn reopened_reads_on<R: Rack>()
         → (IsKept R.Rack next now) × (is_sure next ≡ true → bytes_in R.Rack next now ≡ bytes_in R.Rack group left) }
 {}
 
-/// A group whose headers said what it is when it was left is there again after the next opening of a rack over its disks, of the same width, which reads
-/// on then: no header but those of its own disks that were in is of its epoch.
+/// A group whose headers said what it is when it was left is there again after the next opening of a rack over its disks that finds one disk out at most, and
+/// reads on then: no header but those of its own disks that were in is of its epoch. So the array has the same width.
 pub fn noted_is_back<R: Rack>()
     ensures { (old new : Grouped R) (before : R) (s : ℕ) (group : Group) → IsHeld R.Rack old.width old.groups old.rack → slice_get old.groups s ≡ Some group
         → group.noted ≡ true → is_lost group ≡ false → IsCountable group → IsLeft R.Rack group old.rack before
         → OpensArray R.Rack before new → LeavesRead R.Rack (disk_number 0 0) (disk_number 16 0) before new.rack
-        → new.width ≡ old.width → DisksTell R.Rack new.rack new.width s → serves new.groups (2 * s) ≡ true
+        → DisksTell R.Rack new.rack new.width s → serves new.groups (2 * s) ≡ true
         → IsBack R.Rack s (OfGroups old) before (OfGroups new) }
 {}
 

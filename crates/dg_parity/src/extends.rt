@@ -1,5 +1,5 @@
 // A group whose member gets longer.
-ghost use Rattle.std.specs.Prelude.{◌≡◌, ◌≢◌, ◌⊎◌, ◌+◌, ◌*◌, ◌<◌, ◌≤◌, ℕ, Bool, true, false, IfSome};
+ghost use Rattle.std.specs.Prelude.{◌≡◌, ◌⊎◌, ◌*◌, ◌<◌, ◌≤◌, ℕ, true, false, IfSome};
 ghost use Rattle.std.specs.Bool.{OnTrue, OnFalse};
 ghost use Rattle.dg_model.specs.Causes.{Rose};
 ghost use Rattle.dg_io.specs.Told.{Told, IsSame, Extended, FitsIn};
@@ -72,6 +72,7 @@ pub fn extend<R: Rack>(group: &mut Group, rack: &mut R, size: u64) -> bool
     ensures cause { (j : ℕ) → j < group.old.disks → is_out group.old j ≡ false → is_out group.new j ≡ true
         → Rose ((R.counts rack.old).faults (disk_number group.old.number j)) ((R.counts rack.new).faults (disk_number group.old.number j)) }
     ensures still { IsStill group.old group.new }
+    ensures telling { group.old.told ≡ true → is_lost group.new ≡ false → group.new.told ≡ true }
     ensures silent { is_lost group.old ≡ false → is_lost group.new ≡ true → group.new.told ≡ false }
     ensures leaves { LeavesOthers R.Rack group.old rack.old rack.new }
     ensures calls { MostCalls R.Rack (3 * group.old.disks) rack.old rack.new }

@@ -1,10 +1,12 @@
 // Calls on members that are groups of disks: of an even member its group is called, and no other member is ever there.
-ghost use Rattle.std.specs.Prelude.{◌≡◌, ◌≢◌, ◌⊎◌, ◌+◌, ◌<◌, true, false, length, None, Some, IfOk, IfSome, OnErr, OnOk};
+#![tactic(auto, using(crate::proofs::GoesOnLemmas::goes_none))]
+
+ghost use Rattle.std.specs.Prelude.{◌≡◌, ◌≢◌, ◌⊎◌, ◌+◌, ◌<◌, ℕ, true, false, length, slice_get, None, Some, IfOk, IfSome, OnErr, OnOk};
 ghost use Rattle.dg_io.specs.DiskAnswers.{DropsDisk, MendsDisk};
 ghost use Rattle.dg_io.specs.Told.{Told, IsSame, IsZeros, Extended, Patched, Reads, Torn};
-ghost use Rattle.dg_parity.specs.ArrayCalls.{reads_of, writes_of};
+ghost use Rattle.dg_parity.specs.ArrayCalls.{mends_of, quiet_reads_of, quiet_writes_of, reads_of, writes_of};
 ghost use Rattle.dg_parity.specs.Groups.{MostCalls};
-ghost use Rattle.dg_parity.specs.Arrays.{AreKept, NoneBack, Steps, StepsOn, group_at, is_fallen, is_served, is_unmade, serves, size_at, states_in, told_at, width_at};
+ghost use Rattle.dg_parity.specs.Arrays.{AreKept, GoesOn, NoneBack, NoneFell, Steps, StepsOn, group_at, is_fallen, is_noted, is_served, is_unmade, serves, size_at, states_in, told_at, width_at};
 
 use crate::blanks::blank;
 use crate::drops::drop_disk;
@@ -23,6 +25,8 @@ pub(crate) fn blank_at<R: Rack>(
 ) -> Result<(), Failed>
     requires kept { AreKept R.Rack groups.old.items rack.old }
     ensures steps { Steps R.Rack member groups.old.items groups.new.items rack.old rack.new }
+    ensures goes_on { GoesOn R.Rack groups.old.items groups.new.items rack.old rack.new }
+    ensures noted { OnOk result (is_noted (group_at groups.new.items member) ≡ true) }
     ensures alive { OnOk result (serves groups.new.items member ≡ true) }
     ensures fails { OnErr result (serves groups.new.items member ≡ false) }
     ensures size { OnOk result (size_at groups.new.items member ≡ size) }
@@ -50,6 +54,9 @@ pub(crate) fn read_at<R: Rack>(
 ) -> Result<(), Failed>
     requires kept { AreKept R.Rack groups.old.items rack.old }
     ensures steps { Steps R.Rack member groups.old.items groups.new.items rack.old rack.new }
+    ensures goes_on { GoesOn R.Rack groups.old.items groups.new.items rack.old rack.new }
+    ensures quiet { OnOk result (NoneFell groups.old.items groups.new.items member
+        → MostCalls R.Rack (quiet_reads_of (group_at groups.old.items member) place (length buf.old)) rack.old rack.new) }
     ensures stays { NoneBack groups.old.items groups.new.items }
     ensures calls { MostCalls R.Rack (reads_of (group_at groups.old.items member) place (length buf.old)) rack.old rack.new }
     ensures alive { OnOk result (serves groups.new.items member ≡ true) }
@@ -79,6 +86,10 @@ pub(crate) fn write_at<R: Rack>(
 ) -> Result<(), Failed>
     requires kept { AreKept R.Rack groups.old.items rack.old }
     ensures steps { Steps R.Rack member groups.old.items groups.new.items rack.old rack.new }
+    ensures goes_on { GoesOn R.Rack groups.old.items groups.new.items rack.old rack.new }
+    ensures noted { OnOk result (is_noted (group_at groups.new.items member) ≡ true) }
+    ensures quiet { OnOk result (is_noted (group_at groups.old.items member) ≡ true → NoneFell groups.old.items groups.new.items member
+        → MostCalls R.Rack (quiet_writes_of (group_at groups.old.items member) place (length piece.now)) rack.old rack.new) }
     ensures stays { NoneBack groups.old.items groups.new.items }
     ensures calls { MostCalls R.Rack (writes_of (group_at groups.old.items member) place (length piece.now)) rack.old rack.new }
     ensures alive { OnOk result (serves groups.new.items member ≡ true) }
@@ -109,6 +120,8 @@ pub(crate) fn extend_at<R: Rack>(
 ) -> Result<(), Failed>
     requires kept { AreKept R.Rack groups.old.items rack.old }
     ensures steps { Steps R.Rack member groups.old.items groups.new.items rack.old rack.new }
+    ensures goes_on { GoesOn R.Rack groups.old.items groups.new.items rack.old rack.new }
+    ensures noted { OnOk result (is_noted (group_at groups.new.items member) ≡ true) }
     ensures stays { NoneBack groups.old.items groups.new.items }
     ensures alive { OnOk result (serves groups.new.items member ≡ true) }
     ensures fails { OnErr result ((serves groups.new.items member ≡ false) ⊎ (size < size_at groups.old.items member)) }
@@ -164,6 +177,8 @@ pub(crate) fn drop_at<R: Rack>(groups: &mut Vec<Group>, rack: &mut R, s: u8, j: 
     requires place { s < length groups.old.items }
     requires disk { j < width_at groups.old.items s }
     ensures steps { StepsOn R.Rack s j groups.old.items groups.new.items rack.old rack.new }
+    ensures goes_on { GoesOn R.Rack groups.old.items groups.new.items rack.old rack.new }
+    ensures noted { result ≡ DropAnswer.Dropped false → is_noted (slice_get groups.new.items s) ≡ true }
     ensures answer { DropsDisk (width_at groups.old.items s) s j
         (states_in R.Rack groups.old.items rack.old) (states_in R.Rack groups.new.items rack.new) result }
     ensures parity { result ≢ DropAnswer.Plain }
@@ -180,6 +195,9 @@ pub(crate) fn mend_at<R: Rack>(groups: &mut Vec<Group>, rack: &mut R, s: u8, j: 
     requires place { s < length groups.old.items }
     requires disk { j < width_at groups.old.items s }
     ensures steps { StepsOn R.Rack s j groups.old.items groups.new.items rack.old rack.new }
+    ensures goes_on { GoesOn R.Rack groups.old.items groups.new.items rack.old rack.new }
+    ensures noted { (c : ℕ) → result ≡ MendAnswer.Mended c → is_noted (slice_get groups.new.items s) ≡ true }
+    ensures calls { MostCalls R.Rack (mends_of (slice_get groups.old.items s)) rack.old rack.new }
     ensures answer { MendsDisk (width_at groups.old.items s) s j
         (states_in R.Rack groups.old.items rack.old) (states_in R.Rack groups.new.items rack.new) result }
     ensures parity { result ≢ MendAnswer.Plain }

@@ -1,7 +1,6 @@
 // A group of disks.
-ghost use Rattle.std.specs.Prelude.{◌≡◌, ◌≢◌, ◌+◌, ◌-◌, ◌*◌, ◌<◌, ◌≤◌, ◌^◌, min, ℕ, Bool, true, false, None, IfSome, length, slice_index_or, if◌then◌else◌};
+ghost use Rattle.std.specs.Prelude.{◌≡◌, ◌≢◌, ◌+◌, ◌-◌, ◌*◌, ◌<◌, ◌≤◌, ◌^◌, min, ℕ, true, false, None, IfSome, length, slice_index_or, if◌then◌else◌};
 ghost use Rattle.dg_parity.specs.Headers.{marks_of};
-ghost use Rattle.dg_parity.specs.Stripes.{disk_length};
 
 use crate::headers::Header;
 use boxcar::tag::Tag;
@@ -26,6 +25,8 @@ pub struct Group {
     ghost least: { 3 ≤ disks },
     ghost most: { disks ≤ 8 },
     ghost beyond: { (j : ℕ) → disks ≤ j → slice_index_or out j false ≡ false },
+    ghost epoch_fits: { epoch < 2 ^ 64 },
+    ghost length_fits: { length < 2 ^ 64 },
 }
 
 impl Group {
@@ -138,6 +139,7 @@ impl Group {
         ensures same { IsAlike self.old self.new }
         ensures epoch { self.new.epoch ≡ min (self.old.epoch + 1) (2 ^ 64 - 1) }
         ensures later { self.old.epoch ≤ self.new.epoch }
+        ensures first { 1 ≤ self.new.epoch }
         ensures noted { self.new.noted ≡ false }
     {
         self.epoch = self.epoch.saturating_add(1);

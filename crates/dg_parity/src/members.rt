@@ -1,9 +1,11 @@
 // The bytes of a member.
-ghost use Rattle.std.specs.Prelude.{◌≡◌, ◌≢◌, ◌⊎◌, ◌+◌, ◌*◌, ◌%◌, ◌<◌, ◌≤◌, ℕ, List, Bool, true, false, length, slice_index, slice_range, not};
-ghost use Rattle.std.specs.Bool.{OnTrue, OnFalse};
+#![tactic(auto, using(crate::proofs::GroupLemmas::leaves_none))]
+
+ghost use Rattle.std.specs.Prelude.{◌≡◌, ◌⊎◌, ◌+◌, ◌*◌, ◌<◌, ◌≤◌, ℕ, List, true, false, length, slice_index, not};
+ghost use Rattle.std.specs.Bool.{OnTrue};
 ghost use Rattle.dg_io.specs.Told.{patch};
 ghost use Rattle.dg_parity.specs.Runs.{passes_in, reads_at};
-ghost use Rattle.dg_parity.specs.Groups.{is_out, is_lost, in_of, length_of, FellOne, IsReady, AllTold, LeavesGroup, StandsFor, MostCalls, KeepsMember};
+ghost use Rattle.dg_parity.specs.Groups.{is_lost, in_of, FellOne, IsReady, AllTold, LeavesGroup, StandsFor, MostCalls, KeepsMember, StaysOrFell};
 
 use crate::groups::Group;
 use crate::run_reads::read_window;
@@ -52,6 +54,7 @@ pub(crate) fn write_member<R: Rack>(group: &mut Group, rack: &mut R, place: u64,
     ensures alive { result ≡ not (is_lost group.new) }
     ensures put { OnTrue result ((bytes : List ℕ) → AllTold R.Rack group.new rack.new → StandsFor R.Rack group.old rack.old bytes
         → StandsFor R.Rack group.new rack.new (patch bytes place buf.now)) }
+    ensures steady { OnTrue result (StaysOrFell group.old group.new) }
     ensures calls { MostCalls R.Rack (group.old.disks * passes_in group.old.disks place (length buf.now) + (reads_at group.old.disks place
         + reads_at group.old.disks (place + length buf.now))) rack.old rack.new }
 {

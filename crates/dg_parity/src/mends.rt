@@ -1,9 +1,9 @@
 // A disk that comes back.
-ghost use Rattle.std.specs.Prelude.{◌≡◌, ◌≢◌, ◌⊎◌, ◌↔◌, ◌+◌, ◌-◌, ◌*◌, ◌<◌, ◌≤◌, ℕ, List, Bool, true, false, length, slice_index, IfSome};
+ghost use Rattle.std.specs.Prelude.{◌≡◌, ◌⊎◌, ◌+◌, ◌-◌, ◌*◌, ◌<◌, ◌≤◌, ℕ, true, false, length};
 ghost use Rattle.std.specs.Bool.{OnTrue, OnFalse};
 ghost use Rattle.dg_model.specs.Causes.{Rose};
 ghost use Rattle.dg_parity.specs.Stripes.{IsEven, stripes_of};
-ghost use Rattle.dg_parity.specs.Groups.{disk_number, is_out, is_lost, length_of, IsReady, Holds, AllTold, KeepsHeld, MostCalls};
+ghost use Rattle.dg_parity.specs.Groups.{disk_number, is_out, is_lost, IsReady, Holds, AllTold, KeepsHeld, MostCalls};
 ghost use Rattle.dg_parity.specs.Mends.{FilledTo, IsRefilled, LeavesBut};
 ghost use Rattle.dg_parity.specs.Runs.{runs_of};
 
@@ -23,6 +23,7 @@ fn mend_stripes<R: Rack>(group: &mut Group, rack: &mut R, j: u8, t: u64, part: u
     requires refilled { IsRefilled R.Rack group.old rack.old j }
     ensures leaves { LeavesBut R.Rack j group.old group.new rack.old rack.new }
     ensures done { OnTrue result (group.new ≡ group.old) }
+    ensures calm { is_lost group.new ≡ false → group.new ≡ group.old }
     ensures fell { OnFalse result ((is_lost group.new ≡ true)
         ⊎ Rose ((R.counts rack.old).faults (disk_number group.old.number j)) ((R.counts rack.new).faults (disk_number group.old.number j))) }
     ensures refilled { OnTrue result (IsRefilled R.Rack group.new rack.new j) }
@@ -63,6 +64,7 @@ pub(crate) fn fill_disk<R: Rack>(group: &mut Group, rack: &mut R, j: u8, count: 
     requires stripes { count ≡ stripes_of group.old.disks group.old.length }
     ensures leaves { LeavesBut R.Rack j group.old group.new rack.old rack.new }
     ensures done { OnTrue result (group.new ≡ group.old) }
+    ensures calm { is_lost group.new ≡ false → group.new ≡ group.old }
     ensures fell { OnFalse result ((is_lost group.new ≡ true)
         ⊎ Rose ((R.counts rack.old).faults (disk_number group.old.number j)) ((R.counts rack.new).faults (disk_number group.old.number j))) }
     ensures refilled { OnTrue result (IsRefilled R.Rack group.new rack.new j) }

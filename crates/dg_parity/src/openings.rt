@@ -1,5 +1,5 @@
 // What an opening finds on the disks of a group.
-ghost use Rattle.std.specs.Prelude.{◌≡◌, ◌⊎◌, ◌↔◌, ◌+◌, ◌*◌, ◌<◌, ◌≤◌, ℕ, List, Bool, true, false, None, IfSome, IsTrue, length, take, slice_index_or};
+ghost use Rattle.std.specs.Prelude.{◌≡◌, ◌⊎◌, ◌+◌, ◌*◌, ◌<◌, ◌≤◌, ℕ, List, true, None, IfSome, length, take};
 ghost use Rattle.dg_model.specs.Causes.{Rose};
 ghost use Rattle.dg_parity.specs.Groups.{disk_number, IsReady, MostCalls};
 ghost use Rattle.dg_parity.specs.Headers.{IsCounted};

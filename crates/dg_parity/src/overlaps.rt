@@ -1,5 +1,5 @@
 // What two runs of bytes have in common.
-ghost use Rattle.std.specs.Prelude.{◌≡◌, ◌⊎◌, ◌+◌, ◌-◌, ◌<◌, ◌≤◌, ◌^◌, ℕ, length, slice_index};
+ghost use Rattle.std.specs.Prelude.{◌≡◌, ◌+◌, ◌-◌, ◌<◌, ◌≤◌, ◌^◌, ℕ, length, slice_index};
 
 /// Copies so many bytes from one place to another.
 pub(crate) fn copy_into(to: &mut [u8], low: usize, from: &[u8], skip: usize, count: usize)

@@ -87,8 +87,8 @@ impl<R: Rack> Rack for ParityRack<R> {
     ghost use Rattle.dg_io.specs.Kept.{KeepsRest};
     ghost use Rattle.dg_io.specs.RackCalls.{RackCall};
     ghost use Rattle.dg_io.specs.Told.{Told, IsSame, IsZeros, Measures, IsEmpty, Reads, Patched, Torn, FitsIn, Extended, KeepsFront, IsHeader, OldOrNew};
-    ghost use Rattle.dg_parity.specs.ArrayCalls.{ReadsBehind, WritesBehind};
-    ghost use Rattle.dg_parity.specs.ParityRacks.{IsFallen, IsPast, IsServed, IsShaped, IsShort, IsUnserved};
+    ghost use Rattle.dg_parity.specs.ArrayCalls.{RackGoesOn, ReadsBehind, ReadsQuietly, WritesBehind, WritesQuietly};
+    ghost use Rattle.dg_parity.specs.ParityRacks.{IsFallen, IsNoted, IsPast, IsServed, IsShaped, IsShort, IsUnserved};
     ghost use Rattle.dg_parity.specs.ParityRacks.{ParityMade, parity_bytes, parity_counts, parity_disks, parity_keeps, parity_name, parity_stands, parity_steady, parity_tells, parity_words};
     ghost use Rattle.dg_parity.specs.ParityLaws.{parity_after, parity_both, parity_none, parity_tells_told, parity_told};
 
@@ -119,6 +119,8 @@ impl<R: Rack> Rack for ParityRack<R> {
         ensures made { ParityMade R.Rack self.old (RackCall.blanks member ∷ []) self.new }
         ensures writes { RoseByOne (parity_counts R.Rack self.old).writes (parity_counts R.Rack self.new).writes }
         ensures shape { IsShaped self.old self.new }
+        ensures noted { OnOk result (IsNoted self.new member) }
+        ensures goes_on { RackGoesOn R.Rack self.old self.new }
         ensures alive { OnOk result (IsServed self.new member) }
         ensures fails { OnErr result (IsUnserved self.new member) }
     {
@@ -138,6 +140,7 @@ impl<R: Rack> Rack for ParityRack<R> {
         ensures made { ParityMade R.Rack self.old (RackCall.looks member ∷ []) self.new }
         ensures writes { (parity_counts R.Rack self.new).writes ≡ (parity_counts R.Rack self.old).writes }
         ensures shape { IsShaped self.old self.new }
+        ensures goes_on { RackGoesOn R.Rack self.old self.new }
         ensures fails { OnErr result (IsFallen self.new member) }
     {
         match self {
@@ -156,6 +159,8 @@ impl<R: Rack> Rack for ParityRack<R> {
         ensures leaves { Leaves (parity_words R.Rack) member result self.old self.new }
         ensures writes { (parity_counts R.Rack self.new).writes ≡ (parity_counts R.Rack self.old).writes }
         ensures shape { IsShaped self.old self.new }
+        ensures goes_on { RackGoesOn R.Rack self.old self.new }
+        ensures quiet { OnOk result (ReadsQuietly R.Rack self.old self.new member place (length buf.old)) }
         ensures alive { OnOk result (IsServed self.new member) }
         ensures fails { OnErr result (IsUnserved self.new member ⊎ IsPast self.old member (place + length buf.old)) }
         ensures calls { ReadsBehind R.Rack self.old self.new member place (length buf.old) }
@@ -178,6 +183,9 @@ impl<R: Rack> Rack for ParityRack<R> {
         ensures leaves { Leaves (parity_words R.Rack) member result self.old self.new }
         ensures writes { RoseByOne (parity_counts R.Rack self.old).writes (parity_counts R.Rack self.new).writes }
         ensures shape { IsShaped self.old self.new }
+        ensures noted { OnOk result (IsNoted self.new member) }
+        ensures goes_on { RackGoesOn R.Rack self.old self.new }
+        ensures quiet { OnOk result (WritesQuietly R.Rack self.old self.new member place (length buf.now)) }
         ensures alive { OnOk result (IsServed self.new member) }
         ensures fails { OnErr result (IsUnserved self.new member ⊎ IsPast self.old member (place + length buf.now)) }
         ensures calls { WritesBehind R.Rack self.old self.new member place (length buf.now) }
@@ -198,6 +206,8 @@ impl<R: Rack> Rack for ParityRack<R> {
         ensures leaves { Leaves (parity_words R.Rack) member result self.old self.new }
         ensures writes { RoseByOne (parity_counts R.Rack self.old).writes (parity_counts R.Rack self.new).writes }
         ensures shape { IsShaped self.old self.new }
+        ensures noted { OnOk result (IsNoted self.new member) }
+        ensures goes_on { RackGoesOn R.Rack self.old self.new }
         ensures alive { OnOk result (IsServed self.new member) }
         ensures fails { OnErr result (IsUnserved self.new member ⊎ IsShort self.old member length) }
     {
@@ -219,20 +229,48 @@ impl<R: Rack> Rack for ParityRack<R> {
 }
 
 impl<R: Rack> Disks for ParityRack<R> {
-    ghost use Rattle.dg_parity.specs.ParityRacks.{groups_in, width_in};
+    ghost use Rattle.std.specs.Prelude.{◌≡◌, ◌↔◌, ◌<◌, ◌*◌, ℕ, None, IfSome, false};
+    ghost use Rattle.dg_io.specs.DiskAnswers.{DropsDisk, LeavesMembers, MendsDisk, OneDisk};
+    ghost use Rattle.dg_parity.specs.ArrayCalls.{MendsBehind, RackGoesOn};
+    ghost use Rattle.dg_parity.specs.ParityRacks.{IsNoted, groups_in, parity_disks, parity_words, width_in};
 
     ghost width = { width_in };
 
     ghost groups = { groups_in };
 
-    fn drop_disk(&mut self, s: u8, j: u8) -> DropAnswer {
+    /// The headers of the others say so, unless two disks of the group are out.
+    fn drop_disk(&mut self, s: u8, j: u8) -> DropAnswer
+        requires place { IfSome (width_in self.old) (λ n. (s < groups_in self.old) × (j < n)) }
+        ensures plain { (result ≡ DropAnswer.Plain) ↔ (width_in self.old ≡ None) }
+        ensures idle { width_in self.old ≡ None → self.new ≡ self.old }
+        ensures answer { IfSome (width_in self.old) (λ n. DropsDisk n s j (parity_disks R.Rack self.old) (parity_disks R.Rack self.new) result) }
+        ensures disks { OneDisk s j (parity_disks R.Rack self.old) (parity_disks R.Rack self.new) }
+        ensures leaves { LeavesMembers (parity_words R.Rack) self.old self.new }
+        ensures width { width_in self.new ≡ width_in self.old }
+        ensures groups { groups_in self.new ≡ groups_in self.old }
+        ensures noted { result ≡ DropAnswer.Dropped false → IsNoted self.new (2 * s) }
+        ensures goes_on { RackGoesOn R.Rack self.old self.new }
+    {
         match self {
             ParityRack::Plain(_) => DropAnswer::Plain,
             ParityRack::OfGroups(grouped) => grouped.drop_disk(s, j),
         }
     }
 
-    fn mend(&mut self, s: u8, j: u8) -> MendAnswer {
+    /// The headers say so. In each run of 16 stripes each disk is called once at most.
+    fn mend(&mut self, s: u8, j: u8) -> MendAnswer
+        requires place { IfSome (width_in self.old) (λ n. (s < groups_in self.old) × (j < n)) }
+        ensures plain { (result ≡ MendAnswer.Plain) ↔ (width_in self.old ≡ None) }
+        ensures idle { width_in self.old ≡ None → self.new ≡ self.old }
+        ensures answer { IfSome (width_in self.old) (λ n. MendsDisk n s j (parity_disks R.Rack self.old) (parity_disks R.Rack self.new) result) }
+        ensures disks { OneDisk s j (parity_disks R.Rack self.old) (parity_disks R.Rack self.new) }
+        ensures leaves { LeavesMembers (parity_words R.Rack) self.old self.new }
+        ensures width { width_in self.new ≡ width_in self.old }
+        ensures groups { groups_in self.new ≡ groups_in self.old }
+        ensures noted { (c : ℕ) → result ≡ MendAnswer.Mended c → IsNoted self.new (2 * s) }
+        ensures goes_on { RackGoesOn R.Rack self.old self.new }
+        ensures calls { MendsBehind R.Rack self.old self.new s }
+    {
         match self {
             ParityRack::Plain(_) => MendAnswer::Plain,
             ParityRack::OfGroups(grouped) => grouped.mend(s, j),

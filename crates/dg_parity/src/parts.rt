@@ -1,9 +1,11 @@
 // Calls on a part of one chunk of a group.
-ghost use Rattle.std.specs.Prelude.{◌≡◌, ◌≢◌, ◌⊎◌, ◌+◌, ◌*◌, ◌<◌, ◌≤◌, ℕ, Bool, true, false, length, slice_index, bit_xor, not};
+#![tactic(auto, using(crate::proofs::GroupLemmas::leaves_none))]
+
+ghost use Rattle.std.specs.Prelude.{◌≡◌, ◌≢◌, ◌+◌, ◌*◌, ◌<◌, ◌≤◌, ℕ, true, false, length, slice_index, bit_xor, not};
 ghost use Rattle.std.specs.Bool.{OnTrue, OnFalse};
 ghost use Rattle.dg_parity.specs.Exclusive.{xor_upto, with_at};
 ghost use Rattle.dg_parity.specs.Stripes.{IsEven};
-ghost use Rattle.dg_parity.specs.Groups.{is_out, is_lost, in_of, length_of, IsReady, Holds, AllTold, LeavesGroup, MostCalls, KeepsHeld};
+ghost use Rattle.dg_parity.specs.Groups.{is_out, is_lost, in_of, length_of, IsReady, Holds, AllTold, LeavesGroup, MostCalls, KeepsHeld, StaysOrFell};
 
 use crate::disks::read_disk;
 use crate::groups::Group;
@@ -129,6 +131,7 @@ fn make_part<R: Rack>(group: &mut Group, rack: &mut R, j: u8, place: u64, buf: &
     ensures got { OnTrue result ((has : ℕ → ℕ → ℕ) → AllTold R.Rack group.new rack.new → Holds R.Rack group.old rack.old has
         → IsEven group.old.disks group.old.length has
         → (k : ℕ) → k < length buf.new → slice_index buf.new k ≡ has j (place + k)) }
+    ensures steady { OnTrue result (StaysOrFell group.old group.new) }
     ensures calls { MostCalls R.Rack group.old.disks rack.old rack.new }
 {
     clear(buf);
@@ -158,6 +161,7 @@ pub(crate) fn read_part<R: Rack>(
     ensures got { OnTrue result ((has : ℕ → ℕ → ℕ) → AllTold R.Rack group.new rack.new → Holds R.Rack group.old rack.old has
         → IsEven group.old.disks group.old.length has
         → (k : ℕ) → k < length buf.new → slice_index buf.new k ≡ has j (place + k)) }
+    ensures steady { OnTrue result (StaysOrFell group.old group.new) }
     ensures calls { MostCalls R.Rack (group.old.disks + 1) rack.old rack.new }
 {
     if group.is_out(j) {

@@ -1,13 +1,12 @@
 // A disk that comes back, whole.
-ghost use Rattle.std.specs.Prelude.{◌≡◌, ◌≢◌, ◌⊎◌, ◌↔◌, ◌<◌, ◌≤◌, min, ◌^◌, ◌-◌, ◌+◌, ◌*◌, ℕ, Bool, true, false};
+ghost use Rattle.std.specs.Prelude.{◌≡◌, ◌≢◌, ◌⊎◌, ◌↔◌, ◌<◌, min, ◌-◌, ℕ, true, false};
 ghost use Rattle.dg_model.specs.Causes.{Rose};
 ghost use Rattle.dg_io.specs.Told.{Told, IsSame};
 ghost use Rattle.dg_parity.specs.Blanks.{LeavesOthers};
 ghost use Rattle.dg_parity.specs.Groups.{disk_number, is_out, is_lost, IsStill, MostCalls};
 ghost use Rattle.dg_parity.specs.Stripes.{stripes_of};
-ghost use Rattle.dg_parity.specs.Kept.{bytes_in, IsKept};
+ghost use Rattle.dg_parity.specs.Kept.{bytes_in, calls_to_mend, IsKept};
 ghost use Rattle.dg_parity.specs.Mends.{FallBut};
-ghost use Rattle.dg_parity.specs.Runs.{runs_of};
 
 use crate::disks::note;
 use crate::groups::Group;
@@ -29,12 +28,14 @@ pub fn mend<R: Rack>(group: &mut Group, rack: &mut R, j: u8) -> MendAnswer
     ensures parity { result ≢ MendAnswer.Plain }
     ensures silent { is_lost group.old ≡ false → is_lost group.new ≡ true → group.new.told ≡ false }
     ensures still { IsStill group.old group.new }
+    ensures telling { group.old.told ≡ true → is_lost group.new ≡ false → group.new.told ≡ true }
     ensures was_out { (c : ℕ) → result ≡ MendAnswer.Mended c → is_out group.old j ≡ true }
     ensures idle { ((is_lost group.old ≡ true) ⊎ (is_out group.old j ≡ false)) → (group.new ≡ group.old) × (rack.new ≡ rack.old) }
     ensures fall { FallBut R.Rack j group.old group.new rack.old rack.new }
     ensures leaves { LeavesOthers R.Rack group.old rack.old rack.new }
     ensures noted { (c : ℕ) → result ≡ MendAnswer.Mended c → group.new.noted ≡ true }
-    ensures calls { MostCalls R.Rack (group.old.disks * runs_of (stripes_of group.old.disks group.old.length) + 2 * group.old.disks + 1) rack.old rack.new }
+    ensures noted_on { group.old.noted ≡ true → is_lost group.new ≡ false → group.new.noted ≡ true }
+    ensures calls { MostCalls R.Rack (calls_to_mend group.old.disks group.old.length) rack.old rack.new }
     ensures same { is_lost group.new ≡ false → Told IsSame (bytes_in R.Rack group.old rack.old) (bytes_in R.Rack group.new rack.new) }
 {
     if group.is_lost() {

@@ -1,5 +1,5 @@
 // Which bytes of the chunks of a disk a piece of a member has.
-ghost use Rattle.std.specs.Prelude.{◌≡◌, ◌≢◌, ◌⊎◌, ◌+◌, ◌-◌, ◌/◌, ◌*◌, ◌<◌, ◌≤◌, ◌^◌, ℕ, Bool, true, false, length, slice_index};
+ghost use Rattle.std.specs.Prelude.{◌≡◌, ◌≢◌, ◌⊎◌, ◌+◌, ◌-◌, ◌/◌, ◌*◌, ◌<◌, ◌≤◌, ◌^◌, ℕ, true, false, length};
 ghost use Rattle.dg_parity.specs.Stripes.{parity_of};
 ghost use Rattle.dg_parity.specs.Runs.{byte_in, IsWindow, ChangesPage, IsSpan, Overlays, Gathers, GathersRow};
 
@@ -246,7 +246,7 @@ pub(crate) fn change_page(
         xor_into(page, chunk);
         return;
     }
-    xor_into(page, chunk);
+    xor_into(page, chunk); // as it was
     overlay(n, j, t, 0, at, piece, chunk);
     xor_into(page, chunk);
 }

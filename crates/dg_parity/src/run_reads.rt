@@ -1,9 +1,11 @@
 // Reads of runs of chunks: each disk is called once for several stripes.
-ghost use Rattle.std.specs.Prelude.{◌≡◌, ◌≢◌, ◌⊎◌, ◌+◌, ◌-◌, ◌*◌, ◌/◌, ◌<◌, ◌≤◌, ◌^◌, ℕ, List, Bool, true, false, length, slice_index, bit_xor, not, None, IfSome};
+#![tactic(auto, using(crate::proofs::GroupLemmas::leaves_none))]
+
+ghost use Rattle.std.specs.Prelude.{◌≡◌, ◌≢◌, ◌⊎◌, ◌+◌, ◌-◌, ◌*◌, ◌/◌, ◌<◌, ◌≤◌, ◌^◌, ℕ, List, true, false, length, slice_index, bit_xor, not, None, IfSome};
 ghost use Rattle.std.specs.Bool.{OnTrue, OnFalse};
 ghost use Rattle.dg_parity.specs.Exclusive.{xor_upto, with_at};
 ghost use Rattle.dg_parity.specs.Stripes.{IsEven, spot_of, stripe_of};
-ghost use Rattle.dg_parity.specs.Groups.{is_out, is_lost, in_of, in_upto, length_of, FellOne, IsReady, Holds, AllTold, LeavesGroup, MostCalls, KeepsHeld, KeepsMember, StandsFor};
+ghost use Rattle.dg_parity.specs.Groups.{is_out, is_lost, in_of, length_of, FellOne, IsReady, Holds, AllTold, LeavesGroup, MostCalls, KeepsHeld, KeepsMember, StandsFor};
 ghost use Rattle.dg_parity.specs.Runs.{IsWindow, ReadsOn, ReadsUpto};
 
 use crate::disks::read_disk;

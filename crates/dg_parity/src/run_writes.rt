@@ -1,9 +1,11 @@
 // Writes of runs of chunks: the new parities are made first, and then each disk is called once for several stripes.
-ghost use Rattle.std.specs.Prelude.{◌≡◌, ◌≢◌, ◌⊎◌, ◌+◌, ◌-◌, ◌*◌, ◌/◌, ◌<◌, ◌≤◌, ◌^◌, ℕ, List, Bool, true, false, length, slice_index, bit_xor, not};
-ghost use Rattle.std.specs.Bool.{OnTrue, OnFalse};
+#![tactic(auto, using(crate::proofs::GroupLemmas::leaves_none))]
+
+ghost use Rattle.std.specs.Prelude.{◌≡◌, ◌+◌, ◌-◌, ◌*◌, ◌/◌, ◌<◌, ◌≤◌, ◌^◌, ℕ, List, true, false, length, slice_index, bit_xor, not};
+ghost use Rattle.std.specs.Bool.{OnTrue};
 ghost use Rattle.dg_io.specs.Told.{patch};
 ghost use Rattle.dg_parity.specs.Stripes.{parity_of, stripe_of};
-ghost use Rattle.dg_parity.specs.Groups.{is_out, is_lost, length_of, IsReady, Holds, AllTold, LeavesGroup, MostCalls, KeepsHeld, StandsFor};
+ghost use Rattle.dg_parity.specs.Groups.{is_out, is_lost, length_of, IsReady, Holds, AllTold, LeavesGroup, MostCalls, KeepsHeld, StandsFor, StaysOrFell};
 ghost use Rattle.dg_parity.specs.Exclusive.{xor_upto};
 ghost use Rattle.dg_parity.specs.Runs.{ArePages, IsPage, IsWhole, IsWindow, laid, mixed, reads_at, term_of};
 
@@ -39,6 +41,7 @@ fn add_term<R: Rack>(
         → Holds R.Rack group.old rack.old (laid group.old.disks bytes)
         → (r : ℕ) → r < 512 → slice_index page.new r ≡ bit_xor (slice_index page.old r) (term_of group.old.disks t by_change bytes (patch bytes at piece.now) r j)) }
     ensures idle { by_change ≡ false → IsWhole group.old.disks t at (length piece.now) → rack.new ≡ rack.old }
+    ensures steady { OnTrue result (StaysOrFell group.old group.new) }
     ensures calls { MostCalls R.Rack (group.old.disks + 1) rack.old rack.new }
 {
     let mut chunk = [0; 512];
@@ -78,6 +81,7 @@ fn add_terms<R: Rack>(
         → (r : ℕ) → r < 512 → slice_index page.new r
         ≡ bit_xor (slice_index page.old r) (xor_upto (term_of group.old.disks t by_change bytes (patch bytes at piece.now) r) group.old.disks)) }
     ensures idle { by_change ≡ false → IsWhole group.old.disks t at (length piece.now) → rack.new ≡ rack.old }
+    ensures steady { OnTrue result (StaysOrFell group.old group.new) }
     ensures calls { MostCalls R.Rack ((group.old.disks + 1) * group.old.disks) rack.old rack.new }
 {
     for j in 0..group.disks {
@@ -154,6 +158,7 @@ fn make_page<R: Rack>(
         → Holds R.Rack group.old rack.old (laid group.old.disks bytes) → is_out group.new (parity_of group.old.disks t) ≡ false
         → IsPage group.old.disks t (patch bytes at piece.now) page.new) }
     ensures whole { IsWhole group.old.disks t at (length piece.now) → rack.new ≡ rack.old }
+    ensures steady { OnTrue result (StaysOrFell group.old group.new) }
     ensures calls { MostCalls R.Rack ((group.old.disks + 1) * group.old.disks) rack.old rack.new }
 {
     if group.is_out(parity_on(group.disks, t)) {
@@ -189,6 +194,7 @@ fn make_pages<R: Rack>(
     ensures right { OnTrue result ((bytes : List ℕ) → length bytes ≡ group.old.length → AllTold R.Rack group.new rack.new
         → Holds R.Rack group.old rack.old (laid group.old.disks bytes)
         → ArePages group.old.disks window.first window.count (is_out group.new) (patch bytes at piece.now) parities.new) }
+    ensures steady { OnTrue result (StaysOrFell group.old group.new) }
     ensures calls { MostCalls R.Rack (reads_at group.old.disks at + reads_at group.old.disks (at + length piece.now)) rack.old rack.new }
 {
     for q in 0..window.count {
@@ -221,6 +227,7 @@ fn write_row<R: Rack>(
         → ArePages group.old.disks window.first window.count (is_out group.old) (patch bytes at piece.now) parities.now
         → Holds R.Rack group.old rack.old (mixed group.old.disks bytes (patch bytes at piece.now) j)
         → Holds R.Rack group.new rack.new (mixed group.old.disks bytes (patch bytes at piece.now) (j + 1)) }
+    ensures steady { StaysOrFell group.old group.new }
     ensures calls { MostCalls R.Rack 1 rack.old rack.new }
 {
     let mut page = [0; ROW];
@@ -253,6 +260,7 @@ fn write_rows<R: Rack>(
         → ArePages group.old.disks window.first window.count (is_out group.old) (patch bytes at piece.now) parities.now
         → Holds R.Rack group.old rack.old (laid group.old.disks bytes)
         → Holds R.Rack group.new rack.new (laid group.old.disks (patch bytes at piece.now)) }
+    ensures steady { StaysOrFell group.old group.new }
     ensures calls { MostCalls R.Rack group.old.disks rack.old rack.new }
 {
     for j in 0..group.disks {
@@ -271,6 +279,7 @@ pub(crate) fn write_window<R: Rack>(group: &mut Group, rack: &mut R, at: u64, pi
     ensures alive { result ≡ not (is_lost group.new) }
     ensures put { OnTrue result ((bytes : List ℕ) → AllTold R.Rack group.new rack.new → StandsFor R.Rack group.old rack.old bytes
         → StandsFor R.Rack group.new rack.new (patch bytes at piece.now)) }
+    ensures steady { OnTrue result (StaysOrFell group.old group.new) }
     ensures calls { MostCalls R.Rack (reads_at group.old.disks at + reads_at group.old.disks (at + length piece.now) + group.old.disks) rack.old rack.new }
 {
     let window = window_of(group.disks, at, piece.len());

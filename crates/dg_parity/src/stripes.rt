@@ -1,5 +1,5 @@
 // Where the bytes of a member stand.
-ghost use Rattle.std.specs.Prelude.{◌≡◌, ◌+◌, ◌*◌, ◌<◌, ◌≤◌, ◌^◌, ℕ};
+ghost use Rattle.std.specs.Prelude.{◌≡◌, ◌+◌, ◌*◌, ◌<◌, ◌≤◌};
 ghost use Rattle.dg_parity.specs.Stripes.{stripes_of, disk_length, spot_of, beside};
 
 /// Where a byte of a member stands.

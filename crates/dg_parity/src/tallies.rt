@@ -1,5 +1,5 @@
 // The own counts of a rack of groups.
-ghost use Rattle.std.specs.Prelude.{◌≡◌, ℕ, slice_index};
+ghost use Rattle.std.specs.Prelude.{◌≡◌};
 ghost use Rattle.dg_model.specs.Causes.{RoseByOne};
 ghost use Rattle.dg_parity.specs.Arrays.{HasNoCalls, Notes};
 

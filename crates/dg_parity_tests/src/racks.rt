@@ -1,6 +1,7 @@
 // Racks of four groups of three disks over a rack in memory.
-ghost use Rattle.std.specs.Prelude.{◌≡◌, ◌<◌, true, length, IfOk, IfSome, IsSome};
-ghost use Rattle.dg_parity.specs.ParityRacks.{parity_bytes, parity_stands};
+ghost use Rattle.std.specs.Prelude.{◌≡◌, ◌<◌, ◌*◌, ℕ, false, true, length, IfOk, IfSome, IsSome};
+ghost use Rattle.dg_parity.specs.ArrayCalls.{MendsBehind, RackGoesOn};
+ghost use Rattle.dg_parity.specs.ParityRacks.{IsNoted, parity_bytes, parity_stands};
 ghost use Rattle.dg_parity_tests.specs.Shapes.{HasShape};
 
 use dg_io::{Disks, DropAnswer, MemRack, MendAnswer, Rack};
@@ -20,12 +21,16 @@ fn made(alloc: Global) -> Result<ParityRack<MemRack>, Fail>
     Ok(rack)
 }
 
-// Makes a member anew. Whether that was done.
+// Makes a member anew. Whether that was done: then the headers say which disks are out.
 fn blanks<R: Rack>(rack: &mut ParityRack<R>, member: u8, size: u64) -> bool
     requires { HasShape 4 3 rack.old }
-    ensures { HasShape 4 3 rack.new }
+    ensures shape { HasShape 4 3 rack.new }
+    ensures noted { result ≡ true → IsNoted rack.new member }
 {
-    rack.blank(member, size).is_ok()
+    match rack.blank(member, size) {
+        Ok(()) => true,
+        Err(_) => false,
+    }
 }
 
 // The length of a member that is there.
@@ -58,10 +63,11 @@ fn reads<R: Rack>(rack: &mut ParityRack<R>, member: u8, place: u64, buf: &mut [u
     rack.read(member, place, buf).is_ok()
 }
 
-// Writes to a member, where it has so many bytes. Whether that was done.
+// Writes to a member, where it has so many bytes. Whether that was done: then the headers say which disks are out.
 fn writes<R: Rack>(rack: &mut ParityRack<R>, member: u8, place: u64, buf: &[u8]) -> bool
     requires { HasShape 4 3 rack.old }
-    ensures { HasShape 4 3 rack.new }
+    ensures shape { HasShape 4 3 rack.new }
+    ensures noted { result ≡ true → IsNoted rack.new member }
 {
     let Some(all) = long(rack, member) else {
         return false;
@@ -72,13 +78,17 @@ fn writes<R: Rack>(rack: &mut ParityRack<R>, member: u8, place: u64, buf: &[u8])
     if buf.len() as u64 > all - place {
         return false;
     }
-    rack.write(member, place, buf).is_ok()
+    match rack.write(member, place, buf) {
+        Ok(()) => true,
+        Err(_) => false,
+    }
 }
 
-// Makes a member longer. Whether that was done.
+// Makes a member longer. Whether that was done: then the headers say which disks are out.
 fn extends<R: Rack>(rack: &mut ParityRack<R>, member: u8, size: u64) -> bool
     requires { HasShape 4 3 rack.old }
-    ensures { HasShape 4 3 rack.new }
+    ensures shape { HasShape 4 3 rack.new }
+    ensures noted { result ≡ true → IsNoted rack.new member }
 {
     let Some(all) = long(rack, member) else {
         return false;
@@ -86,25 +96,33 @@ fn extends<R: Rack>(rack: &mut ParityRack<R>, member: u8, size: u64) -> bool
     if size < all {
         return false;
     }
-    rack.extend(member, size).is_ok()
+    match rack.extend(member, size) {
+        Ok(()) => true,
+        Err(_) => false,
+    }
 }
 
-// A disk goes out.
+// A disk goes out. The headers of the others say so, unless the group is lost.
 fn drops<R: Rack>(rack: &mut ParityRack<R>, s: u8, j: u8) -> DropAnswer
     requires shape { HasShape 4 3 rack.old }
     requires group { s < 4 }
     requires disk { j < 3 }
-    ensures { HasShape 4 3 rack.new }
+    ensures shape { HasShape 4 3 rack.new }
+    ensures noted { result ≡ DropAnswer.Dropped false → IsNoted rack.new (2 * s) }
+    ensures goes_on { RackGoesOn R.Rack rack.old rack.new }
 {
     rack.drop_disk(s, j)
 }
 
-// A disk comes back.
+// A disk comes back, in a bounded number of calls.
 fn mends<R: Rack>(rack: &mut ParityRack<R>, s: u8, j: u8) -> MendAnswer
     requires shape { HasShape 4 3 rack.old }
     requires group { s < 4 }
     requires disk { j < 3 }
-    ensures { HasShape 4 3 rack.new }
+    ensures shape { HasShape 4 3 rack.new }
+    ensures noted { (c : ℕ) → result ≡ MendAnswer.Mended c → IsNoted rack.new (2 * s) }
+    ensures goes_on { RackGoesOn R.Rack rack.old rack.new }
+    ensures calls { MendsBehind R.Rack rack.old rack.new s }
 {
     rack.mend(s, j)
 }

@@ -1,7 +1,7 @@
 use Rattle.std.proofs.Common.{sym, ◌∙◌, ap, length, ℕ, List, arith}
 use Rattle.std.proofs.lemmas.Bool.{false≢true}
 use Rattle.dg_parity.specs.Headers.{header_bytes}
-use Rattle.dg_parity.proofs.GroupLemmas.{Marks, failed-at, write-done-at}
+use Rattle.dg_parity.proofs.GroupLemmas.{Marks, failed-at, some-own, write-done-at}
 use Rattle.dg_parity.proofs.CallLemmas.{headed-at, head-at, head-other, held-failed-at}
 use Rattle.dg_parity.proofs.PageLemmas.{header_size}
 use Rattle.dg_parity.proofs.disks.write_header.Goals as goal
@@ -15,6 +15,9 @@ returns-in-Ok-clause-leaves g c =
     write-done-at g.R.Rack c.args.group.now c.args.j c.disk.result 0 c.fill_header.new.page c.in-Ok.field-0 c.args.rack.now c.write.new.self c.disk.ensures c.requires.disk
     (sym c.is_out.ensures ∙ c.if-is_out.false) c.in-Ok.ensures.leaves c.requires.ready (λ noted. absurd (false≢true (sym c.requires.renewed ∙ noted)))
     (omega (arith, size)) c.in-Ok.ensures.ok
+    (λ h. some-own c.args.group.now c.args.j _ c.requires.disk
+    (head-at g.R.Rack c.args.group.now c.args.j c.disk.result c.args.rack.now c.write.new.self c.fill_header.new.page c.disk.ensures size
+    (c.fill_header.ensures ∙ ap header_bytes c.header.ensures) c.in-Ok.ensures.ok))
 
 pub returns-in-Ok-clause-holds : goal.returns-in-Ok-clause-holds
 returns-in-Ok-clause-holds g c has all held =

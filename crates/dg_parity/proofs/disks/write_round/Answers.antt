@@ -32,7 +32,7 @@ returns-clause-leaves g c =
     leaves-then g.R.Rack _ _ _ _ _ _ (leaves-then g.R.Rack _ _ _ _ _ _
     (renewed g.R.Rack c.args.group.now c.renew.new.self c.args.rack.now c.renew.ensures.same c.renew.ensures.later c.renew.ensures.noted c.requires.ready)
     c.write_each.ensures.leaves)
-    (settled g.R.Rack c.renew.new.self c.write_each.new.group c.settle.new.self c.write_each.new.rack c.if-not-write_each.ensures.done c.settle.ensures.same c.settle.ensures.epoch
+    (settled g.R.Rack c.renew.new.self c.write_each.new.group c.settle.new.self c.write_each.new.rack c.if-not-write_each.ensures.done c.renew.ensures.first c.settle.ensures.same c.settle.ensures.epoch
     c.if-not-write_each.ensures.heads c.write_each.ensures.leaves.ready)
 
 pub returns-clause-noted : goal.returns-clause-noted
@@ -42,7 +42,7 @@ pub returns-clause-holds : goal.returns-clause-holds
 returns-clause-holds g c has all held =
     settled-holds g.R.Rack c.args.group.now c.renew.new.self c.write_each.new.group c.settle.new.self c.args.rack.now c.write_each.new.rack has
     c.renew.ensures.same c.renew.ensures.later c.settle.ensures.same (omega (arith, c.settle.ensures.epoch))
-    (settled g.R.Rack c.renew.new.self c.write_each.new.group c.settle.new.self c.write_each.new.rack c.if-not-write_each.ensures.done c.settle.ensures.same c.settle.ensures.epoch
+    (settled g.R.Rack c.renew.new.self c.write_each.new.group c.settle.new.self c.write_each.new.rack c.if-not-write_each.ensures.done c.renew.ensures.first c.settle.ensures.same c.settle.ensures.epoch
     c.if-not-write_each.ensures.heads c.write_each.ensures.leaves.ready)
     c.write_each.ensures.holds all held
 

@@ -2,6 +2,8 @@ use Rattle.std.proofs.Common.{sym, ◌∙◌}
 use Rattle.dg_parity.proofs.KeptSteps.{dropped-kept, dropped-told, marked-ready}
 use Rattle.dg_parity.proofs.BlankLemmas.{others-none}
 use Rattle.dg_parity.proofs.FallLemmas.{fall-none, fall-marked, fall-then, others-marked}
+use Rattle.std.proofs.lemmas.Bool.{false≢true}
+use Rattle.dg_parity.proofs.KeptLemmas.{kept_lost}
 use Rattle.dg_parity.proofs.drops.drop_disk.Goals as goal
 
 pub note-requires : goal.note-requires
@@ -57,3 +59,25 @@ returns-clause-fall g c =
 pub returns-clause-leaves : goal.returns-clause-leaves
 returns-clause-leaves g c =
     others-marked g.R.Rack c.args.group.now c.mark.new.self c.note.new.group c.args.rack.now c.note.new.rack c.mark.ensures.later.number c.mark.ensures.later.disks c.note.ensures.leaves
+
+pub returns-clause-telling : goal.returns-clause-telling
+returns-clause-telling g c told alive = c.note.ensures.leaves.later.telling (c.mark.ensures.told ∙ told) alive
+
+pub returns-then-is_lost-clause-telling : goal.returns-then-is_lost-clause-telling
+returns-then-is_lost-clause-telling g c told alive = absurd (false≢true (sym alive ∙ sym c.is_lost.ensures ∙ c.if-is_lost.true))
+
+pub returns-then-is_lost-2-clause-telling : goal.returns-then-is_lost-2-clause-telling
+returns-then-is_lost-2-clause-telling g c told alive = absurd (false≢true (sym alive ∙ sym c.is_lost-2.ensures ∙ c.if-is_lost-2.true))
+
+pub returns-then-was_lost-clause-telling : goal.returns-then-was_lost-clause-telling
+returns-then-was_lost-clause-telling g c told alive =
+    absurd (false≢true (sym alive ∙ c.mark.ensures.lost (sym c.is_lost-was_lost.ensures ∙ c.if-was_lost.true)))
+
+pub returns-then-was_lost-clause-kept : goal.returns-then-was_lost-clause-kept
+returns-then-was_lost-clause-kept g c = kept_lost g.R.Rack _ _ (c.mark.ensures.lost (sym c.is_lost-was_lost.ensures ∙ c.if-was_lost.true))
+
+pub returns-then-is_lost-clause-kept : goal.returns-then-is_lost-clause-kept
+returns-then-is_lost-clause-kept g c = kept_lost g.R.Rack _ _ (sym c.is_lost.ensures ∙ c.if-is_lost.true)
+
+pub returns-then-is_lost-2-clause-kept : goal.returns-then-is_lost-2-clause-kept
+returns-then-is_lost-2-clause-kept g c = kept_lost g.R.Rack _ _ (sym c.is_lost-2.ensures ∙ c.if-is_lost-2.true)

@@ -1,6 +1,9 @@
 use Rattle.std.proofs.Common.{refl, sym, ◌∙◌}
 use Rattle.dg_io.specs.Told.{IsZeros}
 use Rattle.dg_parity.proofs.ArrayLemmas.{anew-call, serves-is, size-is, steps-one, told-own}
+use Rattle.std.proofs.lemmas.Bool.{false≢true}
+use Rattle.dg_parity.proofs.GroupLemmas.{lost-of}
+use Rattle.dg_parity.proofs.GoesOnLemmas.{goes-one, noted-at}
 use Rattle.dg_parity.proofs.group_calls.blank_at.Goals as goal
 
 pub returns-then-not-blank-clause-steps : goal.returns-then-not-blank-clause-steps
@@ -8,7 +11,7 @@ returns-then-not-blank-clause-steps g c =
     let h =
     anew-call g.R.Rack c.args.member c.args.groups.now.len c.args.groups.now.items c.in-Some.group.now c.blank.new.group c.args.rack.now c.blank.new.rack c.if-member-ne0.false c.requires.kept
     c.args.groups.now.ok.0 (c.in-Some.ensures.variant.0 refl) c.in-Some.ensures.value c.blank.ensures.still c.blank.ensures.kept
-    c.blank.ensures.leaves c.blank.ensures.silent in
+    c.blank.ensures.leaves c.blank.ensures.silent c.blank.ensures.telling in
     steps-one h (λ j lt in0 out. c.blank.ensures.cause j lt out)
 
 pub returns-then-not-blank-clause-fails : goal.returns-then-not-blank-clause-fails
@@ -16,7 +19,7 @@ returns-then-not-blank-clause-fails g c =
     let h =
     anew-call g.R.Rack c.args.member c.args.groups.now.len c.args.groups.now.items c.in-Some.group.now c.blank.new.group c.args.rack.now c.blank.new.rack c.if-member-ne0.false c.requires.kept
     c.args.groups.now.ok.0 (c.in-Some.ensures.variant.0 refl) c.in-Some.ensures.value c.blank.ensures.still c.blank.ensures.kept
-    c.blank.ensures.leaves c.blank.ensures.silent in
+    c.blank.ensures.leaves c.blank.ensures.silent c.blank.ensures.telling in
     serves-is h ∙ sym c.blank.ensures.alive ∙ c.if-not-blank.true
 
 pub returns-clause-steps : goal.returns-clause-steps
@@ -24,7 +27,7 @@ returns-clause-steps g c =
     let h =
     anew-call g.R.Rack c.args.member c.args.groups.now.len c.args.groups.now.items c.in-Some.group.now c.blank.new.group c.args.rack.now c.blank.new.rack c.if-member-ne0.false c.requires.kept
     c.args.groups.now.ok.0 (c.in-Some.ensures.variant.0 refl) c.in-Some.ensures.value c.blank.ensures.still c.blank.ensures.kept
-    c.blank.ensures.leaves c.blank.ensures.silent in
+    c.blank.ensures.leaves c.blank.ensures.silent c.blank.ensures.telling in
     steps-one h (λ j lt in0 out. c.blank.ensures.cause j lt out)
 
 pub returns-clause-alive : goal.returns-clause-alive
@@ -32,7 +35,7 @@ returns-clause-alive g c =
     let h =
     anew-call g.R.Rack c.args.member c.args.groups.now.len c.args.groups.now.items c.in-Some.group.now c.blank.new.group c.args.rack.now c.blank.new.rack c.if-member-ne0.false c.requires.kept
     c.args.groups.now.ok.0 (c.in-Some.ensures.variant.0 refl) c.in-Some.ensures.value c.blank.ensures.still c.blank.ensures.kept
-    c.blank.ensures.leaves c.blank.ensures.silent in
+    c.blank.ensures.leaves c.blank.ensures.silent c.blank.ensures.telling in
     serves-is h ∙ sym c.blank.ensures.alive ∙ c.if-not-blank.false
 
 pub returns-clause-size : goal.returns-clause-size
@@ -40,7 +43,7 @@ returns-clause-size g c =
     let h =
     anew-call g.R.Rack c.args.member c.args.groups.now.len c.args.groups.now.items c.in-Some.group.now c.blank.new.group c.args.rack.now c.blank.new.rack c.if-member-ne0.false c.requires.kept
     c.args.groups.now.ok.0 (c.in-Some.ensures.variant.0 refl) c.in-Some.ensures.value c.blank.ensures.still c.blank.ensures.kept
-    c.blank.ensures.leaves c.blank.ensures.silent in
+    c.blank.ensures.leaves c.blank.ensures.silent c.blank.ensures.telling in
     size-is h ∙ c.blank.ensures.size
 
 pub returns-clause-ok : goal.returns-clause-ok
@@ -48,5 +51,29 @@ returns-clause-ok g c =
     let h =
     anew-call g.R.Rack c.args.member c.args.groups.now.len c.args.groups.now.items c.in-Some.group.now c.blank.new.group c.args.rack.now c.blank.new.rack c.if-member-ne0.false c.requires.kept
     c.args.groups.now.ok.0 (c.in-Some.ensures.variant.0 refl) c.in-Some.ensures.value c.blank.ensures.still c.blank.ensures.kept
-    c.blank.ensures.leaves c.blank.ensures.silent in
+    c.blank.ensures.leaves c.blank.ensures.silent c.blank.ensures.telling in
     told-own h (IsZeros c.args.size) c.if-not-blank.ensures.ok
+
+pub returns-then-not-blank-clause-goes_on : goal.returns-then-not-blank-clause-goes_on
+returns-then-not-blank-clause-goes_on g c =
+    let h =
+    anew-call g.R.Rack c.args.member c.args.groups.now.len c.args.groups.now.items c.in-Some.group.now c.blank.new.group c.args.rack.now c.blank.new.rack c.if-member-ne0.false c.requires.kept
+    c.args.groups.now.ok.0 (c.in-Some.ensures.variant.0 refl) c.in-Some.ensures.value c.blank.ensures.still c.blank.ensures.kept
+    c.blank.ensures.leaves c.blank.ensures.silent c.blank.ensures.telling in
+    goes-one h (λ noted alive. absurd (false≢true (sym alive ∙ lost-of _ (sym c.blank.ensures.alive ∙ c.if-not-blank.true))))
+
+pub returns-clause-goes_on : goal.returns-clause-goes_on
+returns-clause-goes_on g c =
+    let h =
+    anew-call g.R.Rack c.args.member c.args.groups.now.len c.args.groups.now.items c.in-Some.group.now c.blank.new.group c.args.rack.now c.blank.new.rack c.if-member-ne0.false c.requires.kept
+    c.args.groups.now.ok.0 (c.in-Some.ensures.variant.0 refl) c.in-Some.ensures.value c.blank.ensures.still c.blank.ensures.kept
+    c.blank.ensures.leaves c.blank.ensures.silent c.blank.ensures.telling in
+    goes-one h (λ noted alive. c.if-not-blank.ensures.noted)
+
+pub returns-clause-noted : goal.returns-clause-noted
+returns-clause-noted g c =
+    let h =
+    anew-call g.R.Rack c.args.member c.args.groups.now.len c.args.groups.now.items c.in-Some.group.now c.blank.new.group c.args.rack.now c.blank.new.rack c.if-member-ne0.false c.requires.kept
+    c.args.groups.now.ok.0 (c.in-Some.ensures.variant.0 refl) c.in-Some.ensures.value c.blank.ensures.still c.blank.ensures.kept
+    c.blank.ensures.leaves c.blank.ensures.silent c.blank.ensures.telling in
+    noted-at h c.if-not-blank.ensures.noted

@@ -4,7 +4,7 @@ use Rattle.std.proofs.lemmas.Bool.{cases_lt}
 use borrow.Rule.Slice.PartMut.{post_of, same_len_mid}
 use Rattle.dg_parity.specs.Stripes.{stripe_of}
 use Rattle.dg_parity.specs.Runs.{passes_in}
-use Rattle.dg_parity.proofs.GroupLemmas.{leaves-then, leaves-none}
+use Rattle.dg_parity.proofs.GroupLemmas.{leaves-then, leaves_none}
 use Rattle.dg_parity.proofs.CallLemmas.{told-back}
 use Rattle.dg_parity.proofs.MemberSteps.{mid-before, mid-inside, mid-length, not-true}
 use Rattle.dg_parity.proofs.RunSteps.{IsPassed, pass-next, passed-none, passed-next, passed-last, passed-most, passed-steady}
@@ -15,7 +15,7 @@ loop-done-init g c = record {
   size = refl;
   within = omega arith;
   alive = c.requires.alive;
-  leaves = leaves-none g.R.Rack c.args.group.now c.args.rack.now c.requires.ready;
+  leaves = leaves_none g.R.Rack c.args.group.now c.args.rack.now c.requires.ready;
   stands = λ bytes all h. h;
   got = λ bytes all h k lt. absurd (omega (arith, lt));
   passes = subst (λ (l : ℕ). IsPassed g.R.Rack c.args.group.now c.args.group.now c.args.rack.now c.args.rack.now (passes_in c.args.group.now.disks c.args.place (length c.args.buf.now))

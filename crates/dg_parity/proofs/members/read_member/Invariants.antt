@@ -1,5 +1,5 @@
-use Rattle.std.proofs.Common.{◌≡◌, ◌⊎◌, ◌+◌, ◌-◌, ◌*◌, ◌<◌, ◌≤◌, ℕ, List, false, length, get_or}
-use Rattle.dg_parity.specs.Groups.{is_lost, in_of, AllTold, FellOne, LeavesGroup, StandsFor}
+use Rattle.std.proofs.Common.{◌≡◌, ◌+◌, ◌-◌, ◌<◌, ◌≤◌, ℕ, List, false, length, get_or}
+use Rattle.dg_parity.specs.Groups.{is_lost, AllTold, LeavesGroup, StandsFor}
 use Rattle.dg_parity.specs.Runs.{passes_in}
 use Rattle.dg_parity.proofs.RunSteps.{IsPassed}
 use Rattle.dg_parity.proofs.members.read_member.Given as goal

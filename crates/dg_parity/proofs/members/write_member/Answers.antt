@@ -1,15 +1,17 @@
-use Rattle.std.proofs.Common.{◌≡◌, ◌+◌, ◌-◌, ◌*◌, ◌/◌, ◌<◌, ◌≤◌, ◌⊎◌, ℕ, List, length, take, drop, true, inl, inr, refl, sym, ap, subst, ◌∙◌, arith}
+use Rattle.std.proofs.Common.{◌≡◌, ◌+◌, ◌-◌, ◌/◌, ◌<◌, ◌⊎◌, ℕ, List, length, take, drop, true, refl, sym, subst, ◌∙◌, arith}
 use Rattle.dg_io.specs.Told.{patch}
 use Rattle.dg_parity.specs.Runs.{begins, passes_in, reads_at}
 use Rattle.dg_parity.specs.Stripes.{stripe_of}
 use Rattle.std.proofs.lemmas.List.{length-take-le, length-drop}
 use Rattle.dg_parity.specs.Groups.{MostCalls, StandsFor}
-use Rattle.dg_parity.proofs.GroupLemmas.{leaves-then, leaves-none}
+use Rattle.dg_parity.proofs.GroupLemmas.{leaves-then, leaves_none}
 use Rattle.dg_parity.proofs.CallLemmas.{told-back}
 use Rattle.dg_parity.proofs.MemberSteps.{stands-next, stands-length, not-true}
 use Rattle.dg_parity.proofs.RunSteps.{pass-next}
 use Rattle.dg_parity.proofs.LaidSteps.{patch-none}
 use Rattle.dg_parity.proofs.WriteSteps.{IsPut, put-none, put-next, cut-next}
+use Rattle.dg_parity.proofs.RunSteps.{stays-then}
+use Rattle.std.proofs.Common.{inl}
 use Rattle.dg_parity.proofs.members.write_member.Goals as goal
 
 pub loop-done-init : goal.loop-done-init
@@ -23,7 +25,8 @@ loop-done-init g c = record {
       (passes_in c.args.group.now.disks c.args.place (length c.args.buf.now)) (passes_in c.args.group.now.disks b (length c.args.buf.now)) 0)
       (let e : c.args.place ≡ c.args.place + 0 = omega arith in e)
       (put-none c.args.group.now.disks c.args.place (length c.args.buf.now) (g.R.Rack.counts c.args.rack.now).calls (passes_in c.args.group.now.disks c.args.place (length c.args.buf.now))));
-  leaves = leaves-none g.R.Rack c.args.group.now c.args.rack.now c.requires.ready;
+  steady = inl refl;
+  leaves = leaves_none g.R.Rack c.args.group.now c.args.rack.now c.requires.ready;
   put = λ bytes all h. subst (λ (l : List ℕ). StandsFor g.R.Rack c.args.group.now c.args.rack.now l)
       (sym (patch-none bytes c.args.place (omega (arith, stands-length g.R.Rack c.args.group.now c.args.rack.now bytes h, c.requires.range)))) h;
 }
@@ -54,6 +57,7 @@ loop-done-preserved g c =
       within = omega (arith, c.in_window-part.ensures.most);
       calls = next;
       alive = not-true _ c.if-not-write_window.ensures.alive;
+      steady = stays-then c.args.group.now c.loop-done.group c.write_window.new.group c.write_window.ensures.leaves.later c.loop-done.invariant.steady c.if-not-write_window.ensures.steady;
       leaves = leaves-then g.R.Rack _ _ _ _ _ _ c.loop-done.invariant.leaves c.write_window.ensures.leaves;
       put = λ bytes all h.
           let back = told-back g.R.Rack _ _ _ _ c.write_window.ensures.leaves all in
@@ -100,3 +104,6 @@ write_window-requires-clause-window g c =
     length-take-le (done + part - done) (drop done c.args.buf.now) (omega (arith, length-drop done c.args.buf.now, c.in_window-part.ensures.most)) ∙ omega arith in
     subst (λ (k : ℕ). stripe_of c.loop-done.group.disks ((c.args.place + done + (k - 1)) / 512) < stripe_of c.loop-done.group.disks ((c.args.place + done) / 512) + 16) (sym size)
     (c.in_window-part.ensures.window (part - 1) (omega (arith, c.in_window-part.ensures.some (omega arith))))
+
+pub returns-clause-steady : goal.returns-clause-steady
+returns-clause-steady g c = c.loop-done.invariant.steady

@@ -54,3 +54,12 @@ returns-then-not-mend_stripes-clause-calls g c =
 
 pub returns-clause-calls : goal.returns-clause-calls
 returns-clause-calls g c = omega (arith, c.loop-t.invariant.calls)
+
+pub returns-then-not-mend_stripes-clause-calm : goal.returns-then-not-mend_stripes-clause-calm
+returns-then-not-mend_stripes-clause-calm g c alive = c.mend_stripes.ensures.calm alive ∙ c.loop-t.invariant.same
+
+pub returns-in-Err-clause-calm : goal.returns-in-Err-clause-calm
+returns-in-Err-clause-calm g c alive = refl
+
+pub returns-clause-calm : goal.returns-clause-calm
+returns-clause-calm g c alive = c.loop-t.invariant.same

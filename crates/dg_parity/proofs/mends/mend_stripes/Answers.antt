@@ -1,5 +1,6 @@
 use Rattle.std.proofs.Common.{◌≡◌, ◌+◌, ◌*◌, ◌<◌, ℕ, length, inl, sym, subst, ◌∙◌, arith}
 use Rattle.std.proofs.lemmas.List.{length-take-le}
+use Rattle.std.proofs.lemmas.Bool.{false≢true}
 use Rattle.dg_parity.proofs.PartLemmas.{others-in}
 use Rattle.dg_parity.proofs.CallLemmas.{lost-by}
 use Rattle.dg_parity.proofs.MendLemmas.{but-of, but-past, held-past, filled-past, refilled-past, made-right}
@@ -59,3 +60,14 @@ returns-in-Err-clause-calls g c = omega (arith, c.add_others.ensures.calls, c.in
 
 pub returns-then-not-add_others-clause-calls : goal.returns-then-not-add_others-clause-calls
 returns-then-not-add_others-clause-calls g c = omega (arith, c.add_others.ensures.calls, in-few c.args.group.now c.args.j c.requires.disk c.requires.out)
+
+pub returns-then-not-add_others-clause-calm : goal.returns-then-not-add_others-clause-calm
+returns-then-not-add_others-clause-calm g c alive =
+    let h = c.if-not-add_others.ensures.fell in
+    absurd (false≢true (sym alive ∙ lost-by c.args.group.now c.add_others.new.group c.args.j c.add_others.ensures.leaves.later c.requires.out (h.0, h.1, h.3)))
+
+pub returns-in-Err-clause-calm : goal.returns-in-Err-clause-calm
+returns-in-Err-clause-calm g c alive = c.if-not-add_others.ensures.done
+
+pub returns-in-Ok-clause-calm : goal.returns-in-Ok-clause-calm
+returns-in-Ok-clause-calm g c alive = c.if-not-add_others.ensures.done

@@ -5,6 +5,7 @@ use Rattle.dg_parity.specs.declared.groups.Group.{Group}
 use Rattle.dg_parity.proofs.PartLemmas.{others-in}
 use Rattle.dg_parity.proofs.CallLemmas.{lost-by}
 use Rattle.dg_parity.proofs.RunSteps.{right-made, in-most}
+use Rattle.std.proofs.Common.{inl}
 use Rattle.dg_parity.proofs.parts.make_part.Goals as goal
 
 pub add_others-requires-clause-there : goal.add_others-requires-clause-there
@@ -28,3 +29,6 @@ returns-then-not-add_others-clause-calls g c = omega (arith, c.add_others.ensure
 
 pub returns-clause-calls : goal.returns-clause-calls
 returns-clause-calls g c = omega (arith, c.add_others.ensures.calls, in-most c.args.group.now c.args.group.now.disks)
+
+pub returns-clause-steady : goal.returns-clause-steady
+returns-clause-steady g c = inl c.if-not-add_others.ensures.done

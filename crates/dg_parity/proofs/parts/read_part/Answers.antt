@@ -1,6 +1,8 @@
 use Rattle.std.proofs.Common.{arith}
 use Rattle.dg_parity.proofs.GroupLemmas.{leaves-then}
 use Rattle.dg_parity.proofs.CallLemmas.{told-back, holds-then, even-later}
+use Rattle.std.proofs.Common.{inl, inr, sym, ◌∙◌}
+use Rattle.dg_parity.proofs.RunSteps.{fell-later}
 use Rattle.dg_parity.proofs.parts.read_part.Goals as goal
 
 pub returns-then-not-make_part-clause-leaves : goal.returns-then-not-make_part-clause-leaves
@@ -26,3 +28,11 @@ returns-then-not-make_part-clause-calls g c = omega (arith, c.read_disk.ensures.
 
 pub returns-clause-calls : goal.returns-clause-calls
 returns-clause-calls g c = omega (arith, c.read_disk.ensures.calls, c.make_part-2.ensures.calls, c.read_disk.ensures.leaves.later.disks)
+
+pub returns-then-read_disk-clause-steady : goal.returns-then-read_disk-clause-steady
+returns-then-read_disk-clause-steady g c = inl c.if-read_disk.ensures.done
+
+pub returns-clause-steady : goal.returns-clause-steady
+returns-clause-steady g c =
+    inr (fell-later c.args.group.now c.read_disk.new.group c.make_part-2.new.group c.make_part-2.ensures.leaves.later
+    (record { disk = c.args.j; before = sym c.is_out.ensures ∙ c.if-is_out.false; now = c.if-read_disk.ensures.fell }))

@@ -6,6 +6,8 @@ use Rattle.dg_parity.proofs.MendLemmas.{Unmarks, mended-ready}
 use Rattle.dg_parity.proofs.ReturnLemmas.{returned-of, returned-kept, returned-same, unfilled-kept, unfilled-same}
 use Rattle.dg_parity.proofs.BlankLemmas.{others-none}
 use Rattle.dg_parity.proofs.FallLemmas.{fall-none, fall-but, others-but, returned-fall, returned-others}
+use Rattle.std.proofs.lemmas.Bool.{false≢true}
+use Rattle.dg_parity.proofs.KeptLemmas.{kept_lost}
 use Rattle.dg_parity.proofs.returns.mend.Goals as goal
 
 pub note-requires : goal.note-requires
@@ -20,7 +22,7 @@ returns-then-is_out-clause-kept g c =
     (returned-of g.R.Rack c.args.j c.stripes-count.result c.args.group.now c.fill_disk.new.group c.unmark.new.self c.note.new.group c.args.rack.now c.fill_disk.new.rack c.note.new.rack
     c.if-not-fill_disk.ensures.done c.stripes-count.ensures c.fill_disk.ensures.leaves c.fill_disk.ensures.holds c.if-not-fill_disk.ensures.filled
     (record { number = c.unmark.ensures.same.number; disks = c.unmark.ensures.same.disks; size = c.unmark.ensures.same.size; sure = c.unmark.ensures.same.sure; back = c.unmark.ensures.out; others = c.unmark.ensures.others; noted = c.unmark.ensures.noted })
-    c.note.ensures.leaves c.note.ensures.holds)
+    c.note.ensures.leaves c.note.ensures.noted c.note.ensures.holds)
     c.requires.kept
 
 pub returns-then-is_out-clause-same : goal.returns-then-is_out-clause-same
@@ -30,7 +32,7 @@ returns-then-is_out-clause-same g c alive =
     (returned-of g.R.Rack c.args.j c.stripes-count.result c.args.group.now c.fill_disk.new.group c.unmark.new.self c.note.new.group c.args.rack.now c.fill_disk.new.rack c.note.new.rack
     c.if-not-fill_disk.ensures.done c.stripes-count.ensures c.fill_disk.ensures.leaves c.fill_disk.ensures.holds c.if-not-fill_disk.ensures.filled
     (record { number = c.unmark.ensures.same.number; disks = c.unmark.ensures.same.disks; size = c.unmark.ensures.same.size; sure = c.unmark.ensures.same.sure; back = c.unmark.ensures.out; others = c.unmark.ensures.others; noted = c.unmark.ensures.noted })
-    c.note.ensures.leaves c.note.ensures.holds)
+    c.note.ensures.leaves c.note.ensures.noted c.note.ensures.holds)
     c.requires.kept
 
 pub returns-clause-kept : goal.returns-clause-kept
@@ -40,7 +42,7 @@ returns-clause-kept g c =
     (returned-of g.R.Rack c.args.j c.stripes-count.result c.args.group.now c.fill_disk.new.group c.unmark.new.self c.note.new.group c.args.rack.now c.fill_disk.new.rack c.note.new.rack
     c.if-not-fill_disk.ensures.done c.stripes-count.ensures c.fill_disk.ensures.leaves c.fill_disk.ensures.holds c.if-not-fill_disk.ensures.filled
     (record { number = c.unmark.ensures.same.number; disks = c.unmark.ensures.same.disks; size = c.unmark.ensures.same.size; sure = c.unmark.ensures.same.sure; back = c.unmark.ensures.out; others = c.unmark.ensures.others; noted = c.unmark.ensures.noted })
-    c.note.ensures.leaves c.note.ensures.holds)
+    c.note.ensures.leaves c.note.ensures.noted c.note.ensures.holds)
     c.requires.kept
 
 pub returns-clause-same : goal.returns-clause-same
@@ -50,7 +52,7 @@ returns-clause-same g c alive =
     (returned-of g.R.Rack c.args.j c.stripes-count.result c.args.group.now c.fill_disk.new.group c.unmark.new.self c.note.new.group c.args.rack.now c.fill_disk.new.rack c.note.new.rack
     c.if-not-fill_disk.ensures.done c.stripes-count.ensures c.fill_disk.ensures.leaves c.fill_disk.ensures.holds c.if-not-fill_disk.ensures.filled
     (record { number = c.unmark.ensures.same.number; disks = c.unmark.ensures.same.disks; size = c.unmark.ensures.same.size; sure = c.unmark.ensures.same.sure; back = c.unmark.ensures.out; others = c.unmark.ensures.others; noted = c.unmark.ensures.noted })
-    c.note.ensures.leaves c.note.ensures.holds)
+    c.note.ensures.leaves c.note.ensures.noted c.note.ensures.holds)
     c.requires.kept
 
 pub returns-then-not-fill_disk-clause-kept : goal.returns-then-not-fill_disk-clause-kept
@@ -149,3 +151,41 @@ returns-clause-calls g c =
     let runs : c.args.group.now.disks * runs_of c.stripes-count.result ≡ c.args.group.now.disks * runs_of (stripes_of c.args.group.now.disks c.args.group.now.length) =
     ap (λ (k : ℕ). c.args.group.now.disks * runs_of k) c.stripes-count.ensures in
     omega (arith, c.fill_disk.ensures.calls, runs, c.note.ensures.calls, c.unmark.ensures.same.disks, c.fill_disk.ensures.leaves.later.disks)
+
+pub returns-then-is_out-clause-telling : goal.returns-then-is_out-clause-telling
+returns-then-is_out-clause-telling g c told alive =
+    c.note.ensures.leaves.later.telling (c.unmark.ensures.same.told ∙ ap (λ (k : Group). k.told) c.if-not-fill_disk.ensures.done ∙ told) alive
+
+pub returns-clause-telling : goal.returns-clause-telling
+returns-clause-telling g c told alive =
+    c.note.ensures.leaves.later.telling (c.unmark.ensures.same.told ∙ ap (λ (k : Group). k.told) c.if-not-fill_disk.ensures.done ∙ told) alive
+
+pub returns-then-not-fill_disk-clause-telling : goal.returns-then-not-fill_disk-clause-telling
+returns-then-not-fill_disk-clause-telling g c told alive = c.fill_disk.ensures.leaves.later.telling told alive
+
+pub returns-then-not-fill_disk-clause-noted_on : goal.returns-then-not-fill_disk-clause-noted_on
+returns-then-not-fill_disk-clause-noted_on g c noted alive = ap (λ (k : Group). k.noted) (c.fill_disk.ensures.calm alive) ∙ noted
+
+pub returns-then-is_out-clause-noted_on : goal.returns-then-is_out-clause-noted_on
+returns-then-is_out-clause-noted_on g c noted alive = c.note.ensures.noted alive
+
+pub returns-clause-noted_on : goal.returns-clause-noted_on
+returns-clause-noted_on g c noted alive = c.note.ensures.noted alive
+
+pub returns-then-is_lost-2-clause-noted_on : goal.returns-then-is_lost-2-clause-noted_on
+returns-then-is_lost-2-clause-noted_on g c noted alive = absurd (false≢true (sym alive ∙ sym c.is_lost-then-not-fill_disk.ensures ∙ c.if-is_lost-2.true))
+
+pub returns-then-is_lost-3-clause-noted_on : goal.returns-then-is_lost-3-clause-noted_on
+returns-then-is_lost-3-clause-noted_on g c noted alive = absurd (false≢true (sym alive ∙ sym c.is_lost-2.ensures ∙ c.if-is_lost-3.true))
+
+pub returns-then-is_lost-2-clause-telling : goal.returns-then-is_lost-2-clause-telling
+returns-then-is_lost-2-clause-telling g c told alive = absurd (false≢true (sym alive ∙ sym c.is_lost-then-not-fill_disk.ensures ∙ c.if-is_lost-2.true))
+
+pub returns-then-is_lost-3-clause-telling : goal.returns-then-is_lost-3-clause-telling
+returns-then-is_lost-3-clause-telling g c told alive = absurd (false≢true (sym alive ∙ sym c.is_lost-2.ensures ∙ c.if-is_lost-3.true))
+
+pub returns-then-is_lost-2-clause-kept : goal.returns-then-is_lost-2-clause-kept
+returns-then-is_lost-2-clause-kept g c = kept_lost g.R.Rack _ _ (sym c.is_lost-then-not-fill_disk.ensures ∙ c.if-is_lost-2.true)
+
+pub returns-then-is_lost-3-clause-kept : goal.returns-then-is_lost-3-clause-kept
+returns-then-is_lost-3-clause-kept g c = kept_lost g.R.Rack _ _ (sym c.is_lost-2.ensures ∙ c.if-is_lost-3.true)

@@ -1,4 +1,4 @@
-use Rattle.std.proofs.Common.{◌+◌, ◌*◌, ℕ, sym, ◌∙◌, arith, length}
+use Rattle.std.proofs.Common.{◌+◌, ◌*◌, ℕ, arith}
 use Rattle.dg_parity.proofs.PartLemmas.{others-in}
 use Rattle.dg_parity.proofs.RunSteps.{added-none, added-own}
 use Rattle.dg_parity.proofs.run_reads.add_row.Goals as goal

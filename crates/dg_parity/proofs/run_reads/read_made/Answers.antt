@@ -1,10 +1,8 @@
-use Rattle.std.proofs.Common.{◌≡◌, ◌+◌, ◌-◌, ◌*◌, ◌/◌, ◌%◌, ◌<◌, ℕ, length, inl, inr, refl, sym, ap, subst, ◌∙◌, arith}
+use Rattle.std.proofs.Common.{◌-◌, ◌*◌, ◌<◌, ℕ, sym, ap, subst, ◌∙◌, arith}
 use Rattle.std.proofs.lemmas.List.{length-take-le}
 use Rattle.std.specs.Prelude.{not}
-use Rattle.std.proofs.lemmas.Bool.{cases_eq}
 use Rattle.dg_parity.specs.Groups.{is_lost}
 use Rattle.dg_parity.specs.Runs.{ScattersRow}
-use Rattle.dg_parity.specs.Stripes.{spot_of}
 use Rattle.dg_parity.specs.declared.groups.Group.{Group}
 use Rattle.dg_parity.proofs.RunSteps.{lost-fell, made-got}
 use Rattle.dg_parity.proofs.run_reads.read_made.Goals as goal

@@ -1,11 +1,11 @@
-use Rattle.std.proofs.Common.{◌≡◌, ◌+◌, ◌*◌, ℕ, false, length, get_or, inl, inr, refl, sym, ap, subst, ◌∙◌, arith}
+use Rattle.std.proofs.Common.{◌≡◌, ◌+◌, ℕ, false, get_or, inl, inr, refl, sym, ap, subst, ◌∙◌, arith}
 use Rattle.std.proofs.lemmas.Bool.{cases_eq}
 use Rattle.dg_parity.specs.Stripes.{spot_of}
 use Rattle.dg_parity.specs.Groups.{is_out, length_of}
 use Rattle.dg_parity.specs.declared.groups.Group.{Group}
 use Rattle.dg_parity.proofs.GroupLemmas.{leaves-then}
 use Rattle.dg_parity.proofs.CallLemmas.{holds-then, told-back}
-use Rattle.dg_parity.proofs.RunSteps.{calls-in, idle-calls, in-up, in-most, fell-from, window-same}
+use Rattle.dg_parity.proofs.RunSteps.{calls-in, idle-calls, in-up, fell-from, window-same}
 use Rattle.dg_parity.proofs.run_reads.read_plain.Goals as goal
 
 pub read_wanted-requires-clause-there : goal.read_wanted-requires-clause-there

@@ -1,4 +1,4 @@
-use Rattle.std.proofs.Common.{◌≡◌, ◌+◌, ◌*◌, ◌<◌, ℕ, List, false, true, length, inl, inr, sym, subst, ◌∙◌, arith}
+use Rattle.std.proofs.Common.{ℕ, length, inl, inr, sym, subst, ◌∙◌, arith}
 use Rattle.std.proofs.lemmas.Bool.{cases_eq, false≢true}
 use Rattle.dg_io.specs.Told.{patch}
 use Rattle.dg_parity.specs.Stripes.{parity_of}
@@ -6,6 +6,7 @@ use Rattle.dg_parity.specs.Runs.{laid, ChangesPage}
 use Rattle.dg_parity.proofs.LaidLemmas.{laid-even, term-added}
 use Rattle.dg_parity.proofs.LaidSteps.{patched}
 use Rattle.dg_parity.proofs.RowLemmas.{whole-covers}
+use Rattle.std.proofs.Common.{refl}
 use Rattle.dg_parity.proofs.run_writes.add_term.Goals as goal
 
 pub returns-then-not-is_needed-clause-added : goal.returns-then-not-is_needed-clause-added
@@ -39,3 +40,9 @@ returns-clause-idle g c by whole = elim (cases_eq c.args.j (parity_of c.args.gro
       let all = whole-covers c.args.group.now.disks c.args.t c.args.j c.args.at (length c.args.piece.now) c.args.group.now.least c.requires.disk ne whole in
       elim (c.is_needed.ensures.partly by c.if-not-is_needed.false) [ inl low ↦ absurd (omega (arith, low, all.0)) | inr high ↦ absurd (omega (arith, high, all.1)) ]
 ]
+
+pub returns-then-not-is_needed-clause-steady : goal.returns-then-not-is_needed-clause-steady
+returns-then-not-is_needed-clause-steady g c = inl refl
+
+pub returns-clause-steady : goal.returns-clause-steady
+returns-clause-steady g c = c.if-not-read_part.ensures.steady

@@ -1,6 +1,6 @@
-use Rattle.std.proofs.Common.{◌≡◌, ◌+◌, ◌*◌, ◌<◌, ◌≤◌, ℕ, List, false, length, refl, sym, ap, subst, ◌∙◌, arith, get_or, bit_xor}
+use Rattle.std.proofs.Common.{◌≡◌, ◌+◌, ◌*◌, ◌<◌, ◌≤◌, ℕ, length, refl, sym, subst, ◌∙◌, arith, get_or, bit_xor}
 use Rattle.dg_io.specs.Told.{patch}
-use Rattle.dg_parity.specs.Groups.{length_of, Holds}
+use Rattle.dg_parity.specs.Groups.{Holds}
 use Rattle.dg_parity.specs.Runs.{IsWhole, laid, term_of}
 use Rattle.std.proofs.Math.Nat.{mul-le-mul_left}
 use Rattle.dg_parity.specs.Exclusive.{xor_upto}
@@ -8,6 +8,7 @@ use Rattle.dg_parity.proofs.CountLemmas.{mul-next}
 use Rattle.dg_parity.proofs.GroupLemmas.{leaves-then, same-length}
 use Rattle.dg_parity.proofs.CallLemmas.{holds-then, told-back, added-more}
 use Rattle.dg_parity.proofs.MemberSteps.{not-true}
+use Rattle.dg_parity.proofs.RunSteps.{stays-then}
 use Rattle.dg_parity.proofs.run_writes.add_terms.Goals as goal
 
 pub add_term-requires : goal.add_term-requires
@@ -44,6 +45,7 @@ loop-j-preserved g c =
           (subst (λ (m : ℕ). Holds g.R.Rack c.loop-j.group c.loop-j.rack (laid m bytes)) (sym n) (c.loop-j.invariant.holds (laid c.args.group.now.disks bytes) back held)) r lt));
       idle = λ by whole.
           c.add_term.ensures.idle by (subst (λ (m : ℕ). IsWhole m c.args.t c.args.at (length c.args.piece.now)) (sym n) whole) ∙ c.loop-j.invariant.idle by whole;
+      steady = stays-then c.args.group.now c.loop-j.group c.add_term.new.group c.add_term.ensures.leaves.later c.loop-j.invariant.steady c.if-not-add_term.ensures.steady;
       calls = omega (arith, c.loop-j.invariant.calls, c.add_term.ensures.calls, n, mul-next (c.args.group.now.disks + 1) c.loop-j.j);
     }
 
@@ -69,3 +71,6 @@ returns-clause-added g c bytes size all held r lt =
     subst (λ (m : ℕ). get_or c.loop-j.page r 0 ≡ bit_xor (get_or c.args.page.now r 0)
     (xor_upto (term_of c.args.group.now.disks c.args.t c.args.by_change bytes (patch bytes c.args.at c.args.piece.now) r) m)) end
     (c.loop-j.invariant.added bytes size all held r lt)
+
+pub returns-clause-steady : goal.returns-clause-steady
+returns-clause-steady g c = c.loop-j.invariant.steady

@@ -1,4 +1,4 @@
-use Rattle.std.proofs.Common.{◌≡◌, ◌+◌, false, inl, inr, sym, ◌∙◌, arith}
+use Rattle.std.proofs.Common.{inl, inr, sym, ◌∙◌, arith}
 use Rattle.std.proofs.lemmas.Bool.{cases_eq, false≢true}
 use Rattle.dg_parity.specs.Stripes.{parity_of}
 use Rattle.dg_parity.proofs.RowLemmas.{whole-covers}

@@ -1,4 +1,4 @@
-use Rattle.std.proofs.Common.{◌≡◌, ◌+◌, ◌*◌, ◌<◌, ℕ, false, true, length, sym, ap, ◌∙◌, arith, bit_xor}
+use Rattle.std.proofs.Common.{ℕ, sym, ap, ◌∙◌, arith, bit_xor}
 use Rattle.std.proofs.lemmas.Bool.{false≢true}
 use Rattle.std.specs.Int.Bits.{xor_zero_l}
 use Rattle.dg_io.specs.Told.{patch}
@@ -6,6 +6,7 @@ use Rattle.dg_parity.specs.Exclusive.{xor_upto}
 use Rattle.dg_parity.specs.Groups.{is_out}
 use Rattle.dg_parity.specs.Runs.{term_of}
 use Rattle.dg_parity.proofs.LaidLemmas.{page-made}
+use Rattle.std.proofs.Common.{inl, refl}
 use Rattle.dg_parity.proofs.run_writes.make_page.Goals as goal
 
 pub returns-then-is_out-clause-right : goal.returns-then-is_out-clause-right
@@ -25,3 +26,9 @@ returns-then-not-add_terms-clause-whole g c whole = c.add_terms.ensures.idle (c.
 
 pub returns-clause-whole : goal.returns-clause-whole
 returns-clause-whole g c whole = c.add_terms.ensures.idle (c.is_by_change-by_change.ensures.whole whole) whole
+
+pub returns-then-is_out-clause-steady : goal.returns-then-is_out-clause-steady
+returns-then-is_out-clause-steady g c = inl refl
+
+pub returns-clause-steady : goal.returns-clause-steady
+returns-clause-steady g c = c.if-not-add_terms.ensures.steady

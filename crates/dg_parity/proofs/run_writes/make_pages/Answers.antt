@@ -1,4 +1,4 @@
-use Rattle.std.proofs.Common.{◌≡◌, ◌+◌, ◌-◌, ◌*◌, ◌≤◌, ◌++◌, ℕ, List, false, length, take, drop, get_or, inl, inr, refl, sym, ap, subst, ◌∙◌, arith}
+use Rattle.std.proofs.Common.{◌≡◌, ◌+◌, ◌-◌, ◌*◌, ◌++◌, ℕ, false, length, take, drop, get_or, inl, inr, refl, sym, ap, subst, ◌∙◌, arith}
 use Rattle.std.proofs.lemmas.List.{length-take-le, length-drop}
 use Rattle.std.proofs.lemmas.Bool.{cases_eq}
 use borrow.Rule.Slice.PartMut.{post_of, same_len_mid}
@@ -6,11 +6,12 @@ use Rattle.dg_io.specs.Told.{patch}
 use Rattle.dg_parity.specs.Stripes.{parity_of}
 use Rattle.dg_parity.specs.Groups.{is_out, Holds, MostCalls}
 use Rattle.dg_parity.specs.Runs.{laid, IsPage, IsWhole}
-use Rattle.dg_parity.proofs.GroupLemmas.{leaves-then, leaves-none, in-before, same-length}
+use Rattle.dg_parity.proofs.GroupLemmas.{leaves-then, leaves_none, in-before, same-length}
 use Rattle.dg_parity.proofs.CallLemmas.{told-back, holds-then}
 use Rattle.dg_parity.proofs.MemberSteps.{mid-before, mid-inside, not-true}
 use Rattle.dg_parity.proofs.RunSteps.{window-below, window-small, idle-calls}
-use Rattle.dg_parity.proofs.WriteSteps.{read-none, read-next, whole-is, IsRead}
+use Rattle.dg_parity.proofs.WriteSteps.{read-none, read-next, whole-is}
+use Rattle.dg_parity.proofs.RunSteps.{stays-then}
 use Rattle.dg_parity.proofs.run_writes.make_pages.Goals as goal
 
 pub make_page-requires-clause-range : goal.make_page-requires-clause-range
@@ -58,6 +59,7 @@ loop-q-preserved g c =
                 mid-before c.loop-q.parities c.make_page.new.page zs low (512 * i + r) (omega (arith, lt, ne, small)) (omega (arith, c.loop-q.invariant.size, c.requires.room))
                 ∙ c.loop-q.invariant.right bytes long back held i r (omega (arith, lt, ne)) small (in-before c.loop-q.group c.make_page.new.group _ c.make_page.ensures.leaves.later in0)
           ];
+      steady = stays-then c.args.group.now c.loop-q.group c.make_page.new.group c.make_page.ensures.leaves.later c.loop-q.invariant.steady c.if-not-make_page.ensures.steady;
       reads = read-next c.args.group.now.disks c.args.at (c.args.at + length c.args.piece.now) c.args.window.count c.loop-q.q _ _ _ (omega arith)
           (subst (λ (m : ℕ). MostCalls g.R.Rack ((m + 1) * m) c.loop-q.rack c.make_page.new.rack) c.loop-q.invariant.leaves.later.disks c.make_page.ensures.calls)
           (λ first last. idle-calls g.R.Rack _ _ (c.make_page.ensures.whole (subst (λ (m : ℕ). IsWhole m (c.args.window.first + c.loop-q.q) c.args.at (length c.args.piece.now))
@@ -94,12 +96,16 @@ loop-q-init g c = record {
   end = refl;
   size = refl;
   alive = c.requires.alive;
-  leaves = leaves-none g.R.Rack c.args.group.now c.args.rack.now c.requires.ready;
+  leaves = leaves_none g.R.Rack c.args.group.now c.args.rack.now c.requires.ready;
   holds = λ has all held. held;
   right = λ bytes size all held q r lt. absurd (omega (arith, lt));
+  steady = inl refl;
   reads = read-none _ _ _ _ _;
 }
 
 pub make_page-requires-clause-small : goal.make_page-requires-clause-small
 make_page-requires-clause-small g c =
     omega (arith, window-small c.args.group.now.disks c.args.at (length c.args.piece.now) c.args.window c.requires.window c.requires.long)
+
+pub returns-clause-steady : goal.returns-clause-steady
+returns-clause-steady g c = c.loop-q.invariant.steady

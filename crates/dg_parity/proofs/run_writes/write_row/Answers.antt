@@ -1,5 +1,5 @@
 use Rattle.std.proofs.lemmas.List.{length-take-le}
-use Rattle.std.proofs.Common.{◌≡◌, ◌∙◌, ◌+◌, ◌-◌, ◌*◌, ◌≤◌, length, take, drop, refl, arith}
+use Rattle.std.proofs.Common.{◌≡◌, ◌∙◌, ◌+◌, ◌-◌, ◌*◌, length, take, drop, refl, arith}
 use Rattle.dg_io.specs.Told.{patch}
 use Rattle.dg_parity.specs.Groups.{is_out}
 use Rattle.dg_parity.specs.Stripes.{put}
@@ -7,6 +7,7 @@ use Rattle.dg_parity.specs.Runs.{mixed}
 use Rattle.dg_parity.proofs.GroupLemmas.{later-same}
 use Rattle.dg_parity.proofs.HoldLemmas.{put-other}
 use Rattle.dg_parity.proofs.LaidSteps.{patched, row-own, row-none, row-put, pages-of}
+use Rattle.std.proofs.Common.{inl}
 use Rattle.dg_parity.proofs.run_writes.write_row.Goals as goal
 
 pub returns-then-span-clause-put : goal.returns-then-span-clause-put
@@ -36,3 +37,9 @@ returns-clause-put g c bytes size all pages held =
     c.args.group.now.least c.requires.disk c.requires.some c.requires.window (patched bytes c.args.piece.now c.args.at (omega (arith, size, c.requires.range))) c.span_of-span.ensures c.gather.ensures
     (pages-of n c.args.window.first c.args.window.count c.args.j (is_out c.args.group.now) next c.args.parities.now pages in0)
     sub (omega (arith, c.if-span.false)) refl (omega (arith, c.span_of-span.ensures.fits, long)) x behind)
+
+pub returns-then-span-clause-steady : goal.returns-then-span-clause-steady
+returns-then-span-clause-steady g c = inl refl
+
+pub returns-clause-steady : goal.returns-clause-steady
+returns-clause-steady g c = c.write_disk.ensures.steady

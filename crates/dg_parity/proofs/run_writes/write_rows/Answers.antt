@@ -1,10 +1,12 @@
-use Rattle.std.proofs.Common.{◌+◌, ◌<◌, ◌≡◌, ℕ, List, length, refl, sym, subst, ◌∙◌, arith}
+use Rattle.std.proofs.Common.{◌+◌, ◌<◌, ◌≡◌, ℕ, length, refl, sym, subst, ◌∙◌, arith}
 use Rattle.dg_io.specs.Told.{patch}
 use Rattle.dg_parity.specs.Groups.{is_out, Holds}
 use Rattle.dg_parity.specs.Runs.{mixed, ArePages, IsWindow}
-use Rattle.dg_parity.proofs.GroupLemmas.{leaves-then, leaves-none, in-before}
+use Rattle.dg_parity.proofs.GroupLemmas.{leaves-then, leaves_none, in-before}
 use Rattle.dg_parity.proofs.CallLemmas.{told-back}
 use Rattle.dg_parity.proofs.LaidSteps.{laid-mixed, mixed-laid}
+use Rattle.dg_parity.proofs.RunSteps.{stays-then}
+use Rattle.std.proofs.Common.{inl}
 use Rattle.dg_parity.proofs.run_writes.write_rows.Goals as goal
 
 pub write_row-requires : goal.write_row-requires
@@ -22,8 +24,9 @@ write_row-requires g c =
 pub loop-j-init : goal.loop-j-init
 loop-j-init g c = record {
   end = refl;
-  leaves = leaves-none g.R.Rack c.args.group.now c.args.rack.now c.requires.ready;
+  leaves = leaves_none g.R.Rack c.args.group.now c.args.rack.now c.requires.ready;
   put = λ bytes size all pages held. laid-mixed g.R.Rack c.args.group.now c.args.rack.now c.args.group.now.disks bytes (patch bytes c.args.at c.args.piece.now) held;
+  steady = inl refl;
   calls = omega arith;
 }
 
@@ -41,6 +44,7 @@ loop-j-preserved g c =
           (subst (λ (n : ℕ). ArePages n c.args.window.first c.args.window.count (is_out c.loop-j.group) next c.args.parities.now) (sym later.disks)
           (λ q r within small in0. pages q r within small (in-before c.args.group.now c.loop-j.group _ later in0)))
           (subst (λ (n : ℕ). Holds g.R.Rack c.loop-j.group c.loop-j.rack (mixed n bytes next c.loop-j.j)) (sym later.disks) (c.loop-j.invariant.put bytes size back pages held)));
+      steady = stays-then c.args.group.now c.loop-j.group c.write_row.new.group c.write_row.ensures.leaves.later c.loop-j.invariant.steady c.write_row.ensures.steady;
       calls = omega (arith, c.loop-j.invariant.calls, c.write_row.ensures.calls);
     }
 
@@ -50,3 +54,6 @@ returns-clause-put g c bytes size all pages held =
     mixed-laid g.R.Rack c.loop-j.group c.loop-j.rack c.args.group.now.disks bytes (patch bytes c.args.at c.args.piece.now) c.loop-j.invariant.leaves.later.disks
     (subst (λ (k : ℕ). Holds g.R.Rack c.loop-j.group c.loop-j.rack (mixed c.args.group.now.disks bytes (patch bytes c.args.at c.args.piece.now) k)) end
     (c.loop-j.invariant.put bytes size all pages held))
+
+pub returns-clause-steady : goal.returns-clause-steady
+returns-clause-steady g c = c.loop-j.invariant.steady

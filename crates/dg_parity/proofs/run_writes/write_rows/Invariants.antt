@@ -1,6 +1,6 @@
 use Rattle.std.proofs.Common.{◌≡◌, ℕ, List, length}
 use Rattle.dg_io.specs.Told.{patch}
-use Rattle.dg_parity.specs.Groups.{is_out, Holds, AllTold, LeavesGroup, MostCalls}
+use Rattle.dg_parity.specs.Groups.{is_out, Holds, AllTold, LeavesGroup, MostCalls, StaysOrFell}
 use Rattle.dg_parity.specs.Runs.{ArePages, laid, mixed}
 use Rattle.dg_parity.proofs.run_writes.write_rows.Given as goal
 
@@ -12,5 +12,6 @@ invariant-loop-j g l = record {
       → ArePages l.fn.group.disks l.window.first l.window.count (is_out l.fn.group) (patch bytes l.at l.piece) l.parities
       → Holds g.R.Rack l.fn.group l.fn.rack (laid l.fn.group.disks bytes)
       → Holds g.R.Rack l.group l.rack (mixed l.fn.group.disks bytes (patch bytes l.at l.piece) l.j);
+  steady : StaysOrFell l.fn.group l.group;
   calls : MostCalls g.R.Rack l.j l.fn.rack l.rack;
 }

@@ -1,5 +1,5 @@
 use Rattle.std.proofs.lemmas.List.{length-take-le}
-use Rattle.std.proofs.Common.{◌+◌, ◌*◌, ◌≡◌, ◌<◌, ℕ, List, length, sym, ap, subst, ◌∙◌, arith}
+use Rattle.std.proofs.Common.{◌*◌, ◌≡◌, ℕ, length, sym, subst, ◌∙◌, arith}
 use Rattle.dg_io.specs.Told.{patch}
 use Rattle.dg_parity.specs.Groups.{is_out, Holds}
 use Rattle.dg_parity.specs.Runs.{laid, ArePages, IsWindow}
@@ -8,6 +8,7 @@ use Rattle.dg_parity.proofs.GroupLemmas.{leaves-then}
 use Rattle.dg_parity.proofs.CallLemmas.{told-back}
 use Rattle.dg_parity.proofs.MemberSteps.{stands-length}
 use Rattle.dg_parity.proofs.LaidSteps.{stands-laid, laid-stands}
+use Rattle.dg_parity.proofs.RunSteps.{stays-then}
 use Rattle.dg_parity.proofs.run_writes.write_window.Goals as goal
 
 pub write_rows-requires : goal.write_rows-requires
@@ -49,3 +50,7 @@ returns-then-is_lost-clause-calls g c = omega (arith, c.make_pages.ensures.calls
 
 pub returns-clause-calls : goal.returns-clause-calls
 returns-clause-calls g c = omega (arith, c.make_pages.ensures.calls, c.write_rows.ensures.calls, c.make_pages.ensures.leaves.later.disks)
+
+pub returns-clause-steady : goal.returns-clause-steady
+returns-clause-steady g c =
+    stays-then c.args.group.now c.make_pages.new.group c.write_rows.new.group c.write_rows.ensures.leaves.later c.if-not-make_pages.ensures.steady c.write_rows.ensures.steady

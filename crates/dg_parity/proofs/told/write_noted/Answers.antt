@@ -4,6 +4,11 @@ use Rattle.dg_io.specs.Told.{patch}
 use Rattle.dg_parity.proofs.GroupLemmas.{leaves-then}
 use Rattle.dg_parity.proofs.CallLemmas.{told-back}
 use Rattle.dg_parity.proofs.MemberSteps.{stands-noted}
+use Rattle.std.proofs.Common.{◌≡◌, ap}
+use Rattle.dg_parity.specs.Groups.{is_out}
+use Rattle.dg_parity.specs.Kept.{quiet_calls_to_write}
+use Rattle.dg_parity.specs.declared.groups.Group.{Group}
+use Rattle.dg_parity.proofs.RunSteps.{idle-calls, still-of}
 use Rattle.dg_parity.proofs.told.write_noted.Goals as goal
 
 pub write_member-requires : goal.write_member-requires
@@ -50,3 +55,14 @@ pub returns-clause-calls : goal.returns-clause-calls
 returns-clause-calls g c =
     put-noted _ _ _ _ _ _ _ c.args.place (length c.args.piece.now) c.note.ensures.leaves.later.disks (c.write_member.ensures.leaves.later.disks ∙ c.note.ensures.leaves.later.disks)
     c.note.ensures.calls c.write_member.ensures.calls c.note-2.ensures.calls
+
+pub returns-clause-quiet : goal.returns-clause-quiet
+returns-clause-quiet g c noted none =
+    let first = c.note.ensures.idle noted in
+    let same : c.write_member.new.group ≡ c.note.new.group =
+    still-of c.note.new.group c.write_member.new.group c.note-2.new.group c.note-2.ensures.leaves.later (λ j in0. none j (sym (ap (λ (k : Group). is_out k j) first.0) ∙ in0)) c.if-not-write_member.ensures.steady in
+    let last = c.note-2.ensures.idle (ap (λ (k : Group). k.noted) (same ∙ first.0) ∙ noted) in
+    let mid : (g.R.Rack.counts c.write_member.new.rack).calls ≤ (g.R.Rack.counts c.note.new.rack).calls + quiet_calls_to_write c.args.group.now.disks c.args.place (length c.args.piece.now) =
+    subst (λ (n : ℕ). (g.R.Rack.counts c.write_member.new.rack).calls ≤ (g.R.Rack.counts c.note.new.rack).calls + quiet_calls_to_write n c.args.place (length c.args.piece.now)) c.note.ensures.leaves.later.disks
+    c.write_member.ensures.calls in
+    omega (arith, mid, idle-calls g.R.Rack _ _ first.1, idle-calls g.R.Rack _ _ last.1)

@@ -1,4 +1,4 @@
-use Rattle.std.proofs.Common.{◌+◌, ◌*◌, ◌-◌, ◌/◌, ◌<◌, ◌≤◌, ◌≡◌, sym, ◌∙◌, arith}
+use Rattle.std.proofs.Common.{◌+◌, ◌*◌, ◌-◌, ◌/◌, ◌<◌, ◌≡◌, sym, ◌∙◌, arith}
 use Rattle.dg_parity.proofs.RunLemmas.{stands-on}
 use Rattle.dg_parity.proofs.windows.has_bytes.Goals as goal
 

@@ -1,7 +1,7 @@
-use Rattle.std.proofs.Common.{◌≡◌, ◌<◌, ℕ, length, refl, sym, subst}
+use Rattle.std.proofs.Common.{◌≡◌, ◌<◌, ℕ, length, refl, sym, ap, subst, ◌∙◌}
 use Rattle.dg_io.specs.DiskAnswers.{DropsDisk, LeavesMembers, OneDisk}
-use Rattle.dg_parity.proofs.ArraySteps.{held_on, members_on}
-use Rattle.dg_parity.specs.Arrays.{Grouped, grouped_disks, grouped_words}
+use Rattle.dg_parity.proofs.ArraySteps.{held_on, member-group, members_on}
+use Rattle.dg_parity.specs.Arrays.{GoesOn, Grouped, grouped_disks, grouped_words, is_noted}
 use Rattle.dg_parity.proofs.arrays.GroupRackDisks.drop_disk.Goals as goal
 
 pub drop_at-requires : goal.drop_at-requires
@@ -50,3 +50,10 @@ returns-clause-leaves g c =
 
 pub returns-clause-groups : goal.returns-clause-groups
 returns-clause-groups g c = subst (λ (it : Grouped g.row.R.Denot). length c.drop_at.new.groups.items ≡ length it.groups) c.self.view_is c.drop_at.ensures.steps.count
+
+pub returns-clause-goes_on : goal.returns-clause-goes_on
+returns-clause-goes_on g c =
+    subst (λ (s : Grouped g.row.R.Denot). GoesOn g.R.Rack s.groups c.drop_at.new.groups.items s.rack c.drop_at.new.rack) c.self.view_is c.drop_at.ensures.goes_on
+
+pub returns-clause-noted : goal.returns-clause-noted
+returns-clause-noted g c is = ap is_noted (member-group c.drop_at.new.groups.items c.args.s) ∙ c.drop_at.ensures.noted is

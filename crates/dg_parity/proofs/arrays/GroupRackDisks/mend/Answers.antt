@@ -1,7 +1,10 @@
-use Rattle.std.proofs.Common.{◌≡◌, ◌<◌, ℕ, length, refl, sym, subst}
+use Rattle.std.proofs.Common.{◌≡◌, ◌<◌, ℕ, length, refl, sym, ap, subst, ◌∙◌}
 use Rattle.dg_io.specs.DiskAnswers.{MendsDisk, LeavesMembers, OneDisk}
-use Rattle.dg_parity.proofs.ArraySteps.{held_on, members_on}
-use Rattle.dg_parity.specs.Arrays.{Grouped, grouped_disks, grouped_words}
+use Rattle.dg_parity.proofs.ArraySteps.{held_on, member-group, members_on}
+use Rattle.std.specs.Prelude.{slice_get}
+use Rattle.dg_parity.specs.ArrayCalls.{mends_of}
+use Rattle.dg_parity.specs.Groups.{MostCalls}
+use Rattle.dg_parity.specs.Arrays.{GoesOn, Grouped, grouped_disks, grouped_words, is_noted}
 use Rattle.dg_parity.proofs.arrays.GroupRackDisks.mend.Goals as goal
 
 pub mend_at-requires : goal.mend_at-requires
@@ -50,3 +53,14 @@ returns-clause-leaves g c =
 
 pub returns-clause-groups : goal.returns-clause-groups
 returns-clause-groups g c = subst (λ (it : Grouped g.row.R.Denot). length c.mend_at.new.groups.items ≡ length it.groups) c.self.view_is c.mend_at.ensures.steps.count
+
+pub returns-clause-goes_on : goal.returns-clause-goes_on
+returns-clause-goes_on g c =
+    subst (λ (s : Grouped g.row.R.Denot). GoesOn g.R.Rack s.groups c.mend_at.new.groups.items s.rack c.mend_at.new.rack) c.self.view_is c.mend_at.ensures.goes_on
+
+pub returns-clause-noted : goal.returns-clause-noted
+returns-clause-noted g c n is = ap is_noted (member-group c.mend_at.new.groups.items c.args.s) ∙ c.mend_at.ensures.noted n is
+
+pub returns-clause-calls : goal.returns-clause-calls
+returns-clause-calls g c =
+    subst (λ (s : Grouped g.row.R.Denot). MostCalls g.R.Rack (mends_of (slice_get s.groups c.args.s)) s.rack c.mend_at.new.rack) c.self.view_is c.mend_at.ensures.calls

@@ -5,8 +5,9 @@ use Rattle.dg_io.specs.RackWords.{Leaves}
 use Rattle.dg_io.specs.Told.{IsEmpty, IsSame, Measures, Told}
 use Rattle.dg_parity.proofs.ArrayLemmas.{steps-none}
 use Rattle.dg_parity.proofs.ArraySteps.{absent_empty, found_measures, found_stands, leaves_grouped, made_grouped, tally_of}
+use Rattle.dg_parity.proofs.GoesOnLemmas.{goes_none}
 use Rattle.dg_parity.proofs.GroupLemmas.{same-self}
-use Rattle.dg_parity.specs.Arrays.{Grouped, GroupedMade, group_at, grouped_bytes, grouped_words, is_unmade, serves, size_at, IsShaped, is_fallen}
+use Rattle.dg_parity.specs.Arrays.{Grouped, GroupedMade, group_at, grouped_bytes, grouped_words, is_unmade, serves, size_at, GoesOn, IsShaped, is_fallen}
 use Rattle.dg_parity.specs.declared.groups.Group.{Group}
 use Rattle.dg_parity.proofs.arrays.GroupRackRack.attach.Goals as goal
 
@@ -79,3 +80,8 @@ returns-clause-shape g c =
 pub returns-clause-fails : goal.returns-clause-fails
 returns-clause-fails g c =
     subst (λ (l : List Group). OnErr c.find_at-result.result (is_fallen (group_at l c.args.member) ≡ true)) c.deref.ensures.value c.find_at-result.ensures.fails
+
+pub returns-clause-goes_on : goal.returns-clause-goes_on
+returns-clause-goes_on g c =
+    subst (λ (s : Grouped g.row.R.Denot). GoesOn g.R.Rack s.groups c.self.inside.groups.items s.rack c.self.inside.rack) c.self.view_is
+    (goes_none g.R.Rack c.self.inside.groups.items c.self.inside.rack)

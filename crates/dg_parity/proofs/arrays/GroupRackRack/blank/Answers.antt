@@ -6,7 +6,7 @@ use Rattle.dg_io.specs.RackWords.{Leaves}
 use Rattle.dg_io.specs.Told.{IsZeros, Told}
 use Rattle.dg_model.specs.Causes.{RoseByOne}
 use Rattle.dg_parity.proofs.ArraySteps.{blank_back, ok_on, held_after, leaves_grouped, made_grouped, tally_of}
-use Rattle.dg_parity.specs.Arrays.{Grouped, GroupedMade, grouped_bytes, grouped_keeps, grouped_stands, grouped_words, IsShaped}
+use Rattle.dg_parity.specs.Arrays.{Grouped, GroupedMade, grouped_bytes, grouped_keeps, grouped_stands, grouped_words, IsShaped, GoesOn}
 use Rattle.dg_parity.proofs.arrays.GroupRackRack.blank.Goals as goal
 
 pub blank_at-result-requires : goal.blank_at-result-requires
@@ -75,3 +75,7 @@ returns-clause-shape g c =
     let new : Grouped g.row.R.Denot = record { rack = c.blank_at-result.new.rack; width = c.self.inside.width; groups = c.blank_at-result.new.groups.items; tally = c.note_write.new.self } in
     let h : IsShaped old new = record { width = refl; groups = c.blank_at-result.ensures.steps.count } in
     subst (λ (s : Grouped g.row.R.Denot). IsShaped s new) c.self.view_is h
+
+pub returns-clause-goes_on : goal.returns-clause-goes_on
+returns-clause-goes_on g c =
+    subst (λ (s : Grouped g.row.R.Denot). GoesOn g.R.Rack s.groups c.blank_at-result.new.groups.items s.rack c.blank_at-result.new.rack) c.self.view_is c.blank_at-result.ensures.goes_on

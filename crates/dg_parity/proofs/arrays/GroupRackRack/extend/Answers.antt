@@ -5,7 +5,7 @@ use Rattle.dg_io.specs.RackWords.{Leaves}
 use Rattle.dg_io.specs.Told.{Extended, KeepsFront, Told}
 use Rattle.dg_model.specs.Causes.{RoseByOne}
 use Rattle.dg_parity.proofs.ArraySteps.{front_of, held_after, leaves_grouped, made_grouped, tally_of}
-use Rattle.dg_parity.specs.Arrays.{Grouped, GroupedMade, grouped_bytes, grouped_words, IsShaped, serves, size_at}
+use Rattle.dg_parity.specs.Arrays.{Grouped, GroupedMade, grouped_bytes, grouped_words, IsShaped, serves, size_at, GoesOn}
 use Rattle.dg_parity.proofs.arrays.GroupRackRack.extend.Goals as goal
 
 pub extend_at-result-requires : goal.extend_at-result-requires
@@ -71,3 +71,7 @@ pub returns-clause-fails : goal.returns-clause-fails
 returns-clause-fails g c =
     subst (λ (s : Grouped g.row.R.Denot). OnErr c.extend_at-result.result ((serves c.extend_at-result.new.groups.items c.args.member ≡ false) ⊎ (c.args.length < size_at s.groups c.args.member))) c.self.view_is
     c.extend_at-result.ensures.fails
+
+pub returns-clause-goes_on : goal.returns-clause-goes_on
+returns-clause-goes_on g c =
+    subst (λ (s : Grouped g.row.R.Denot). GoesOn g.R.Rack s.groups c.extend_at-result.new.groups.items s.rack c.extend_at-result.new.rack) c.self.view_is c.extend_at-result.ensures.goes_on

@@ -4,9 +4,9 @@ use Rattle.dg_io.specs.RackCalls.RackCall.{calls}
 use Rattle.dg_io.specs.RackWords.{Leaves}
 use Rattle.dg_io.specs.Told.{IsSame, Reads, Told}
 use Rattle.dg_parity.proofs.ArraySteps.{held_after, leaves_grouped, made_grouped, tally_of}
-use Rattle.dg_parity.specs.ArrayCalls.{reads_of}
+use Rattle.dg_parity.specs.ArrayCalls.{quiet_reads_of, reads_of}
 use Rattle.dg_parity.specs.Groups.{MostCalls}
-use Rattle.dg_parity.specs.Arrays.{group_at, Grouped, GroupedMade, grouped_bytes, grouped_words, IsShaped, serves, size_at}
+use Rattle.dg_parity.specs.Arrays.{group_at, Grouped, GroupedMade, grouped_bytes, grouped_words, IsShaped, serves, size_at, GoesOn, NoneFell}
 use Rattle.dg_parity.proofs.arrays.GroupRackRack.read.Goals as goal
 
 pub read_at-result-requires : goal.read_at-result-requires
@@ -77,3 +77,13 @@ pub returns-clause-calls : goal.returns-clause-calls
 returns-clause-calls g c =
     subst (λ (s : Grouped g.row.R.Denot). MostCalls g.R.Rack (reads_of (group_at s.groups c.args.member) c.args.place (length c.args.buf.now)) s.rack c.read_at-result.new.rack) c.self.view_is
     c.read_at-result.ensures.calls
+
+pub returns-clause-goes_on : goal.returns-clause-goes_on
+returns-clause-goes_on g c =
+    subst (λ (s : Grouped g.row.R.Denot). GoesOn g.R.Rack s.groups c.read_at-result.new.groups.items s.rack c.read_at-result.new.rack) c.self.view_is c.read_at-result.ensures.goes_on
+
+pub returns-clause-quiet : goal.returns-clause-quiet
+returns-clause-quiet g c =
+    subst (λ (s : Grouped g.row.R.Denot). OnOk c.read_at-result.result (NoneFell s.groups c.read_at-result.new.groups.items c.args.member
+    → MostCalls g.R.Rack (quiet_reads_of (group_at s.groups c.args.member) c.args.place (length c.args.buf.now)) s.rack c.read_at-result.new.rack)) c.self.view_is
+    c.read_at-result.ensures.quiet

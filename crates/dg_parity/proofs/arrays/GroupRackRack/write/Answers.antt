@@ -1,13 +1,13 @@
-use Rattle.std.proofs.Common.{◌≡◌, [], ◌∷◌, refl, subst, ◌⊎◌, ◌+◌, ◌<◌, false, length}
+use Rattle.std.proofs.Common.{◌≡◌, true, [], ◌∷◌, refl, subst, ◌⊎◌, ◌+◌, ◌<◌, false, length}
 use Rattle.std.specs.Prelude.{OnErr, OnOk, length}
 use Rattle.dg_io.specs.RackCalls.RackCall.{calls}
 use Rattle.dg_io.specs.RackWords.{Leaves}
 use Rattle.dg_io.specs.Told.{IsHeader, OldOrNew, Patched, Told, Torn}
 use Rattle.dg_model.specs.Causes.{RoseByOne}
 use Rattle.dg_parity.proofs.ArraySteps.{err_on, held_after, leaves_grouped, made_grouped, tally_of}
-use Rattle.dg_parity.specs.ArrayCalls.{writes_of}
+use Rattle.dg_parity.specs.ArrayCalls.{quiet_writes_of, writes_of}
 use Rattle.dg_parity.specs.Groups.{MostCalls}
-use Rattle.dg_parity.specs.Arrays.{group_at, Grouped, GroupedMade, grouped_bytes, grouped_words, IsShaped, serves, size_at}
+use Rattle.dg_parity.specs.Arrays.{group_at, Grouped, GroupedMade, grouped_bytes, grouped_words, IsShaped, serves, size_at, GoesOn, NoneFell, is_noted}
 use Rattle.dg_parity.proofs.arrays.GroupRackRack.write.Goals as goal
 
 pub write_at-result-requires : goal.write_at-result-requires
@@ -87,3 +87,13 @@ pub returns-clause-calls : goal.returns-clause-calls
 returns-clause-calls g c =
     subst (λ (s : Grouped g.row.R.Denot). MostCalls g.R.Rack (writes_of (group_at s.groups c.args.member) c.args.place (length c.args.buf.now)) s.rack c.write_at-result.new.rack) c.self.view_is
     c.write_at-result.ensures.calls
+
+pub returns-clause-goes_on : goal.returns-clause-goes_on
+returns-clause-goes_on g c =
+    subst (λ (s : Grouped g.row.R.Denot). GoesOn g.R.Rack s.groups c.write_at-result.new.groups.items s.rack c.write_at-result.new.rack) c.self.view_is c.write_at-result.ensures.goes_on
+
+pub returns-clause-quiet : goal.returns-clause-quiet
+returns-clause-quiet g c =
+    subst (λ (s : Grouped g.row.R.Denot). OnOk c.write_at-result.result (is_noted (group_at s.groups c.args.member) ≡ true → NoneFell s.groups c.write_at-result.new.groups.items c.args.member
+    → MostCalls g.R.Rack (quiet_writes_of (group_at s.groups c.args.member) c.args.place (length c.args.buf.now)) s.rack c.write_at-result.new.rack)) c.self.view_is
+    c.write_at-result.ensures.quiet

@@ -3,6 +3,7 @@ use Rattle.std.specs.Prelude.{IfOk, IfSome, None, Some, OnErr}
 use Rattle.dg_io.specs.RackCalls.RackCall.{looks}
 use Rattle.dg_io.specs.RackWords.{Leaves}
 use Rattle.dg_io.specs.Told.{IsEmpty, IsSame, Measures, Told}
+use Rattle.dg_parity.specs.ArrayCalls.{RackGoesOn}
 use Rattle.dg_parity.specs.ParityLaws.{grouped_leaves, grouped_made, plain_made, plain_leaves}
 use Rattle.dg_parity.specs.ParityRacks.{ParityMade, parity_bytes, parity_counts, parity_words, IsShaped, IsFallen}
 use Rattle.dg_parity.specs.declared.parity_racks.ParityRack.{ParityRack}
@@ -70,3 +71,9 @@ returns-in-Plain-clause-fails g c =
 pub returns-in-OfGroups-clause-fails : goal.returns-in-OfGroups-clause-fails
 returns-in-OfGroups-clause-fails g c =
     subst (λ (s : ParityRack g.row.R.Denot). OnErr c.attach-in-OfGroups.result (IsFallen (OfGroups c.attach-in-OfGroups.new.self) c.args.member)) (sym c.in-OfGroups.is) c.attach-in-OfGroups.ensures.fails
+
+pub returns-in-Plain-clause-goes_on : goal.returns-in-Plain-clause-goes_on
+returns-in-Plain-clause-goes_on g c = subst (λ (s : ParityRack g.row.R.Denot). RackGoesOn g.R.Rack s (Plain c.attach.new.self)) (sym c.in-Plain.is) tt
+
+pub returns-in-OfGroups-clause-goes_on : goal.returns-in-OfGroups-clause-goes_on
+returns-in-OfGroups-clause-goes_on g c = subst (λ (s : ParityRack g.row.R.Denot). RackGoesOn g.R.Rack s (OfGroups c.attach-in-OfGroups.new.self)) (sym c.in-OfGroups.is) c.attach-in-OfGroups.ensures.goes_on

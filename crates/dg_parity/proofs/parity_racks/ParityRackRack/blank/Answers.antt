@@ -5,8 +5,9 @@ use Rattle.dg_io.specs.RackCalls.RackCall.{blanks}
 use Rattle.dg_io.specs.RackWords.{Leaves}
 use Rattle.dg_io.specs.Told.{IsZeros, Told}
 use Rattle.dg_model.specs.Causes.{RoseByOne}
+use Rattle.dg_parity.specs.ArrayCalls.{RackGoesOn}
 use Rattle.dg_parity.specs.ParityLaws.{grouped_leaves, grouped_made, plain_made, grouped_rest, plain_leaves, plain_rest}
-use Rattle.dg_parity.specs.ParityRacks.{ParityMade, parity_bytes, parity_counts, parity_keeps, parity_stands, parity_words, IsServed, IsShaped, IsUnserved}
+use Rattle.dg_parity.specs.ParityRacks.{ParityMade, parity_bytes, parity_counts, parity_keeps, parity_stands, parity_words, IsNoted, IsServed, IsShaped, IsUnserved}
 use Rattle.dg_parity.specs.declared.parity_racks.ParityRack.{ParityRack}
 use Rattle.dg_parity.specs.declared.parity_racks.ParityRack.TheVariants.{Plain, OfGroups}
 use Rattle.dg_parity.proofs.ArraySteps.{ok_on, err_on}
@@ -72,3 +73,15 @@ returns-in-Plain-clause-fails g c =
 pub returns-in-OfGroups-clause-fails : goal.returns-in-OfGroups-clause-fails
 returns-in-OfGroups-clause-fails g c =
     subst (λ (s : ParityRack g.row.R.Denot). OnErr c.blank-in-OfGroups.result (IsUnserved (OfGroups c.blank-in-OfGroups.new.self) c.args.member)) (sym c.in-OfGroups.is) c.blank-in-OfGroups.ensures.fails
+
+pub returns-in-Plain-clause-goes_on : goal.returns-in-Plain-clause-goes_on
+returns-in-Plain-clause-goes_on g c = subst (λ (s : ParityRack g.row.R.Denot). RackGoesOn g.R.Rack s (Plain c.blank.new.self)) (sym c.in-Plain.is) tt
+
+pub returns-in-OfGroups-clause-goes_on : goal.returns-in-OfGroups-clause-goes_on
+returns-in-OfGroups-clause-goes_on g c = subst (λ (s : ParityRack g.row.R.Denot). RackGoesOn g.R.Rack s (OfGroups c.blank-in-OfGroups.new.self)) (sym c.in-OfGroups.is) c.blank-in-OfGroups.ensures.goes_on
+
+pub returns-in-Plain-clause-noted : goal.returns-in-Plain-clause-noted
+returns-in-Plain-clause-noted g c = ok_on c.blank.result (IsNoted (Plain c.blank.new.self) c.args.member) tt
+
+pub returns-in-OfGroups-clause-noted : goal.returns-in-OfGroups-clause-noted
+returns-in-OfGroups-clause-noted g c = c.blank-in-OfGroups.ensures.noted

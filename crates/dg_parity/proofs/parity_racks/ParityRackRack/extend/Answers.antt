@@ -4,8 +4,9 @@ use Rattle.dg_io.specs.RackCalls.RackCall.{calls}
 use Rattle.dg_io.specs.RackWords.{Leaves}
 use Rattle.dg_io.specs.Told.{Extended, FitsIn, KeepsFront, Told}
 use Rattle.dg_model.specs.Causes.{RoseByOne}
+use Rattle.dg_parity.specs.ArrayCalls.{RackGoesOn}
 use Rattle.dg_parity.specs.ParityLaws.{grouped_leaves, grouped_made, plain_made, plain_leaves}
-use Rattle.dg_parity.specs.ParityRacks.{ParityMade, parity_bytes, parity_counts, parity_stands, parity_words, IsServed, IsShaped, IsUnserved, IsShort}
+use Rattle.dg_parity.specs.ParityRacks.{ParityMade, parity_bytes, parity_counts, parity_stands, parity_words, IsNoted, IsServed, IsShaped, IsUnserved, IsShort}
 use Rattle.dg_parity.specs.declared.parity_racks.ParityRack.{ParityRack}
 use Rattle.dg_parity.specs.declared.parity_racks.ParityRack.TheVariants.{Plain, OfGroups}
 use Rattle.dg_parity.proofs.ArraySteps.{ok_on, err_on}
@@ -77,3 +78,15 @@ returns-in-Plain-clause-fails g c =
 pub returns-in-OfGroups-clause-fails : goal.returns-in-OfGroups-clause-fails
 returns-in-OfGroups-clause-fails g c =
     subst (λ (s : ParityRack g.row.R.Denot). OnErr c.extend-in-OfGroups.result (IsUnserved (OfGroups c.extend-in-OfGroups.new.self) c.args.member ⊎ IsShort s c.args.member c.args.length)) (sym c.in-OfGroups.is) c.extend-in-OfGroups.ensures.fails
+
+pub returns-in-Plain-clause-goes_on : goal.returns-in-Plain-clause-goes_on
+returns-in-Plain-clause-goes_on g c = subst (λ (s : ParityRack g.row.R.Denot). RackGoesOn g.R.Rack s (Plain c.extend.new.self)) (sym c.in-Plain.is) tt
+
+pub returns-in-OfGroups-clause-goes_on : goal.returns-in-OfGroups-clause-goes_on
+returns-in-OfGroups-clause-goes_on g c = subst (λ (s : ParityRack g.row.R.Denot). RackGoesOn g.R.Rack s (OfGroups c.extend-in-OfGroups.new.self)) (sym c.in-OfGroups.is) c.extend-in-OfGroups.ensures.goes_on
+
+pub returns-in-Plain-clause-noted : goal.returns-in-Plain-clause-noted
+returns-in-Plain-clause-noted g c = ok_on c.extend.result (IsNoted (Plain c.extend.new.self) c.args.member) tt
+
+pub returns-in-OfGroups-clause-noted : goal.returns-in-OfGroups-clause-noted
+returns-in-OfGroups-clause-noted g c = c.extend-in-OfGroups.ensures.noted

@@ -3,7 +3,7 @@ use Rattle.std.specs.Prelude.{IfSome, OnOk, length, Some, OnErr}
 use Rattle.dg_io.specs.RackCalls.RackCall.{calls}
 use Rattle.dg_io.specs.RackWords.{Leaves}
 use Rattle.dg_io.specs.Told.{IsSame, Reads, Told}
-use Rattle.dg_parity.specs.ArrayCalls.{ReadsBehind}
+use Rattle.dg_parity.specs.ArrayCalls.{RackGoesOn, ReadsQuietly, ReadsBehind}
 use Rattle.dg_parity.specs.ParityLaws.{grouped_leaves, grouped_made, plain_made, plain_leaves}
 use Rattle.dg_parity.specs.ParityRacks.{ParityMade, parity_bytes, parity_counts, parity_stands, parity_words, IsServed, IsShaped, IsUnserved, IsPast}
 use Rattle.dg_parity.specs.declared.parity_racks.ParityRack.{ParityRack}
@@ -84,3 +84,19 @@ returns-in-Plain-clause-calls g c = subst (λ (s : ParityRack g.row.R.Denot). Re
 pub returns-in-OfGroups-clause-calls : goal.returns-in-OfGroups-clause-calls
 returns-in-OfGroups-clause-calls g c =
     subst (λ (s : ParityRack g.row.R.Denot). ReadsBehind g.R.Rack s (OfGroups c.read-in-OfGroups.new.self) c.args.member c.args.place (length c.args.buf.now)) (sym c.in-OfGroups.is) c.read-in-OfGroups.ensures.calls
+
+pub returns-in-Plain-clause-goes_on : goal.returns-in-Plain-clause-goes_on
+returns-in-Plain-clause-goes_on g c = subst (λ (s : ParityRack g.row.R.Denot). RackGoesOn g.R.Rack s (Plain c.read.new.self)) (sym c.in-Plain.is) tt
+
+pub returns-in-OfGroups-clause-goes_on : goal.returns-in-OfGroups-clause-goes_on
+returns-in-OfGroups-clause-goes_on g c = subst (λ (s : ParityRack g.row.R.Denot). RackGoesOn g.R.Rack s (OfGroups c.read-in-OfGroups.new.self)) (sym c.in-OfGroups.is) c.read-in-OfGroups.ensures.goes_on
+
+pub returns-in-Plain-clause-quiet : goal.returns-in-Plain-clause-quiet
+returns-in-Plain-clause-quiet g c =
+    subst (λ (s : ParityRack g.row.R.Denot). OnOk c.read.result (ReadsQuietly g.R.Rack s (Plain c.read.new.self) c.args.member c.args.place (length c.args.buf.now))) (sym c.in-Plain.is)
+    (ok_on c.read.result (ReadsQuietly g.R.Rack (Plain c.in-Plain.rack) (Plain c.read.new.self) c.args.member c.args.place (length c.args.buf.now)) tt)
+
+pub returns-in-OfGroups-clause-quiet : goal.returns-in-OfGroups-clause-quiet
+returns-in-OfGroups-clause-quiet g c =
+    subst (λ (s : ParityRack g.row.R.Denot). OnOk c.read-in-OfGroups.result (ReadsQuietly g.R.Rack s (OfGroups c.read-in-OfGroups.new.self) c.args.member c.args.place (length c.args.buf.now)))
+    (sym c.in-OfGroups.is) c.read-in-OfGroups.ensures.quiet

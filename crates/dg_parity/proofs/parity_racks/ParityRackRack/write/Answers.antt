@@ -4,9 +4,9 @@ use Rattle.dg_io.specs.RackCalls.RackCall.{calls}
 use Rattle.dg_io.specs.RackWords.{Leaves}
 use Rattle.dg_io.specs.Told.{IsHeader, OldOrNew, Patched, Told, Torn}
 use Rattle.dg_model.specs.Causes.{RoseByOne}
-use Rattle.dg_parity.specs.ArrayCalls.{WritesBehind}
+use Rattle.dg_parity.specs.ArrayCalls.{RackGoesOn, WritesBehind, WritesQuietly}
 use Rattle.dg_parity.specs.ParityLaws.{grouped_leaves, grouped_made, plain_made, plain_leaves}
-use Rattle.dg_parity.specs.ParityRacks.{ParityMade, parity_bytes, parity_counts, parity_stands, parity_steady, parity_words, IsServed, IsShaped, IsUnserved, IsPast}
+use Rattle.dg_parity.specs.ParityRacks.{ParityMade, parity_bytes, parity_counts, parity_stands, parity_steady, parity_words, IsNoted, IsServed, IsShaped, IsUnserved, IsPast}
 use Rattle.dg_parity.specs.declared.parity_racks.ParityRack.{ParityRack}
 use Rattle.dg_parity.specs.declared.parity_racks.ParityRack.TheVariants.{Plain, OfGroups}
 use Rattle.dg_parity.proofs.ArraySteps.{ok_on, err_on}
@@ -91,3 +91,25 @@ returns-in-Plain-clause-calls g c = subst (λ (s : ParityRack g.row.R.Denot). Wr
 pub returns-in-OfGroups-clause-calls : goal.returns-in-OfGroups-clause-calls
 returns-in-OfGroups-clause-calls g c =
     subst (λ (s : ParityRack g.row.R.Denot). WritesBehind g.R.Rack s (OfGroups c.write-in-OfGroups.new.self) c.args.member c.args.place (length c.args.buf.now)) (sym c.in-OfGroups.is) c.write-in-OfGroups.ensures.calls
+
+pub returns-in-Plain-clause-goes_on : goal.returns-in-Plain-clause-goes_on
+returns-in-Plain-clause-goes_on g c = subst (λ (s : ParityRack g.row.R.Denot). RackGoesOn g.R.Rack s (Plain c.write.new.self)) (sym c.in-Plain.is) tt
+
+pub returns-in-OfGroups-clause-goes_on : goal.returns-in-OfGroups-clause-goes_on
+returns-in-OfGroups-clause-goes_on g c = subst (λ (s : ParityRack g.row.R.Denot). RackGoesOn g.R.Rack s (OfGroups c.write-in-OfGroups.new.self)) (sym c.in-OfGroups.is) c.write-in-OfGroups.ensures.goes_on
+
+pub returns-in-Plain-clause-noted : goal.returns-in-Plain-clause-noted
+returns-in-Plain-clause-noted g c = ok_on c.write.result (IsNoted (Plain c.write.new.self) c.args.member) tt
+
+pub returns-in-OfGroups-clause-noted : goal.returns-in-OfGroups-clause-noted
+returns-in-OfGroups-clause-noted g c = c.write-in-OfGroups.ensures.noted
+
+pub returns-in-Plain-clause-quiet : goal.returns-in-Plain-clause-quiet
+returns-in-Plain-clause-quiet g c =
+    subst (λ (s : ParityRack g.row.R.Denot). OnOk c.write.result (WritesQuietly g.R.Rack s (Plain c.write.new.self) c.args.member c.args.place (length c.args.buf.now))) (sym c.in-Plain.is)
+    (ok_on c.write.result (WritesQuietly g.R.Rack (Plain c.in-Plain.rack) (Plain c.write.new.self) c.args.member c.args.place (length c.args.buf.now)) tt)
+
+pub returns-in-OfGroups-clause-quiet : goal.returns-in-OfGroups-clause-quiet
+returns-in-OfGroups-clause-quiet g c =
+    subst (λ (s : ParityRack g.row.R.Denot). OnOk c.write-in-OfGroups.result (WritesQuietly g.R.Rack s (OfGroups c.write-in-OfGroups.new.self) c.args.member c.args.place (length c.args.buf.now)))
+    (sym c.in-OfGroups.is) c.write-in-OfGroups.ensures.quiet
