@@ -43,11 +43,13 @@ pub fn drill_loses_its_homes()
 /// Where no member's count of faults rose in a drill, its `settle` is done: its volume is sound, and the plan finds room. Each of the files is given
 /// with just its bytes or is unavailable then.
 pub fn drills_give_their_files()
-    ensures settled { (before : Counts) (seed files : ℕ) (g : Geometry) (image : List ℕ) (writes losses cats : List Reply) (reply : Reply) (written final : State)
+    ensures settled { (before : Counts) (seed files : ℕ) (g : Geometry) (image : List ℕ) (writes losses cats : List Reply) (reply : Reply)
+        (written final : State)
         → files ≤ 2000 → IsDrillVolume seed files image g → Trace AreTold before (write_events g image) writes written
         → Run AreTold written (later_events seed files) (reply ∷ (losses ++ cats)) final → length losses ≡ 2
         → NoneRose before.faults final.counts.faults → reply ≡ Settled }
-    ensures given { (before : Counts) (seed files : ℕ) (g : Geometry) (image : List ℕ) (writes losses cats : List Reply) (reply : Reply) (written final : State)
+    ensures given { (before : Counts) (seed files : ℕ) (g : Geometry) (image : List ℕ) (writes losses cats : List Reply) (reply : Reply)
+        (written final : State)
         → files ≤ 2000 → IsDrillVolume seed files image g → Trace AreTold before (write_events g image) writes written
         → Run AreTold written (later_events seed files) (reply ∷ (losses ++ cats)) final → length losses ≡ 2
         → NoneRose before.faults final.counts.faults → given_count seed 0 cats + unavailable_count cats ≡ files }
