@@ -37,7 +37,7 @@ def operation(rng, group):
     if what == "blank":
         words = [some_size(rng, group.width)]
     elif what == "extend":
-        words = [min(size + rng.choice((0, 1, 100, 600, 3000)), LONGEST) - (rng.random() < 0.03)]
+        words = [max(0, min(size + rng.choice((0, 1, 100, 600, 3000)), LONGEST) - (rng.random() < 0.03))]
     elif what == "drop":
         words = [rng.randrange(group.width)]
     elif what == "mend":
