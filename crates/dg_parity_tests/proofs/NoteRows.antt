@@ -8,7 +8,7 @@ use Rattle.dg_parity.specs.ParityRacks.{IsNoted, IsServed, width_in}
 use Rattle.dg_parity.specs.declared.parity_racks.ParityRack.{ParityRack}
 use Rattle.dg_parity.specs.declared.parity_racks.ParityRack.TheVariants.{Plain, OfGroups}
 
-abbrev is_there : Option ℕ → Bool
+abbrev pub is_there : Option ℕ → Bool
 is_there None = false
 is_there (Some n) = true
 
