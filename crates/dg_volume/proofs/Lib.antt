@@ -11,6 +11,7 @@ mod FileLaws
 mod GoneLaws
 mod HomeLaws
 mod LabelLaws
+mod LeftLists
 mod ListedLaws
 mod LooseLaws
 mod MoveSteps

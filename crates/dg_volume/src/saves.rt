@@ -74,7 +74,7 @@ fn recent_inodes(alloc: Global, hot: &Hot) -> Result<Numbers, NoMemory>
 }
 
 /// Whether a member is good.
-fn is_good<R: Rack>(store: &Store<R>, member: u8) -> bool
+pub fn is_good<R: Rack>(store: &Store<R>, member: u8) -> bool
     requires sound { IsSound R.Rack store.now }
     requires member { member < 2 * (stored_shape store.now).b }
     ensures { result ≡ is_good (stored_members store.now member) }

@@ -1,0 +1,196 @@
+// What is left of the lists of an array without its lost boundaries: places, marks and bits of members.
+ghost use Rattle.std.specs.Prelude.{◌≡◌, ◌≤◌, ◌<◌, ◌++◌, ◌*◌, ◌/◌, ◌∷◌, ◌&&◌, ◌||◌, ℕ, All, IfOk, OnOk, [], if◌then◌else◌, length, map, not, true, false};
+ghost use Rattle.dg_io.specs.Commits.{is_marked as is_bit};
+ghost use Rattle.dg_label.specs.Labels.{HaveSameNumbers, is_long};
+ghost use Rattle.dg_label.specs.Seals.{HasGood, HasNoGood};
+ghost use Rattle.dg_model.specs.Lives.{boundary_at};
+ghost use Rattle.dg_model.specs.Marks.{is_marked};
+ghost use Rattle.dg_model.specs.Members.{is_lost};
+ghost use Rattle.dg_model.specs.Moves.{count_upto};
+ghost use Rattle.dg_model.specs.Regroups.{member_before};
+ghost use Rattle.dg_model.specs.Sites.{is_gone};
+ghost use Rattle.dg_store.specs.Reduced.{left_in};
+ghost use Rattle.dg_store.specs.Stores.{IsSound, members_of, shape_of, table_of};
+ghost use Rattle.dg_volume.specs.Left.{BitStays};
+
+use crate::in_use::InUse;
+use crate::saves::is_good;
+use dg_io::{NoMemory, Rack};
+use dg_label::{KeptLabel, with_bit};
+use dg_store::Store;
+use std::alloc::Global;
+
+/// Whether some member is good.
+pub fn has_good<R: Rack>(store: &Store<R>) -> bool
+    requires { IsSound R.Rack store.now }
+    ensures some { result ≡ true → HasGood store.now }
+    ensures none { result ≡ false → HasNoGood store.now }
+{
+    for member in 0..2 * store.shape().b {
+        if is_good(store, member) {
+            return true;
+        }
+    }
+    false
+}
+
+/// Whether a boundary isn't lost.
+fn is_left<R: Rack>(store: &Store<R>, place: u8) -> bool
+    requires sound { IsSound R.Rack store.now }
+    requires within { place < (shape_of store.now).b }
+    ensures { result ≡ not (is_lost (members_of store.now) place) }
+{
+    is_good(store, 2 * place) || is_good(store, 2 * place + 1)
+}
+
+/// Puts a boundary last, if it isn't lost.
+fn push_left<R: Rack>(store: &Store<R>, left: &mut Vec<u8>, place: u8) -> Result<(), NoMemory>
+    requires sound { IsSound R.Rack store.now }
+    requires within { place < (shape_of store.now).b }
+    ensures { OnOk result (left.new.items ≡ left.old.items ++ (if not (is_lost (members_of store.now) place) then place ∷ [] else [])) }
+{
+    if !is_left(store, place) {
+        return Ok(());
+    }
+    match left.push(place) {
+        Ok(()) => Ok(()),
+        Err(_) => Err(NoMemory),
+    }
+}
+
+/// The places of the boundaries that aren't lost.
+pub fn places_left<R: Rack>(alloc: Global, store: &Store<R>) -> Result<Vec<u8>, NoMemory>
+    requires { IsSound R.Rack store.now }
+    ensures { IfOk result (λ left. left.items ≡ left_in store.now) }
+{
+    let mut left = Vec::new(alloc);
+    for place in 0..store.shape().b {
+        push_left(store, &mut left, place)?;
+    }
+    Ok(left)
+}
+
+/// The numbers of the boundaries at some places.
+pub fn numbers_at(alloc: Global, in_use: &InUse, places: &[u8]) -> Result<Vec<u8>, NoMemory>
+    ensures { IfOk result (λ numbers. numbers.items ≡ map (boundary_at in_use.now.live.items) places.now) }
+{
+    let mut numbers = Vec::new(alloc);
+    for at in 0..places.len() {
+        let Ok(()) = numbers.push(in_use.number(places[at])) else {
+            return Err(NoMemory);
+        };
+    }
+    Ok(numbers)
+}
+
+/// The mark of a block, if it isn't gone.
+fn still_marked<R: Rack>(store: &Store<R>, block: u32, mark: bool) -> bool
+    requires sound { IsSound R.Rack store.now }
+    requires range { block < (shape_of store.now).n }
+    ensures { result ≡ (mark && not (is_gone (table_of store.now) (members_of store.now) block)) }
+{
+    mark && !store.is_gone(block)
+}
+
+/// Whether a block is marked or gone.
+fn marked_or_gone<R: Rack>(store: &Store<R>, block: u32, mark: bool) -> bool
+    requires sound { IsSound R.Rack store.now }
+    requires range { block < (shape_of store.now).n }
+    ensures { result ≡ (mark || is_gone (table_of store.now) (members_of store.now) block) }
+{
+    mark || store.is_gone(block)
+}
+
+/// Takes the marks from blocks that are gone.
+pub fn unmark_gone<R: Rack>(store: &Store<R>, marks: &mut Vec<bool>)
+    requires sound { IsSound R.Rack store.now }
+    requires size { length marks.old.items ≡ (shape_of store.now).n }
+    ensures size { length marks.new.items ≡ length marks.old.items }
+    ensures marked { (b : ℕ) → b < (shape_of store.now).n
+        → is_marked marks.new.items b ≡ (is_marked marks.old.items b && not (is_gone (table_of store.now) (members_of store.now) b)) }
+{
+    for block in 0..store.shape().n {
+        let mark = still_marked(store, block, marks[block as usize]);
+        marks[block as usize] = mark;
+    }
+}
+
+/// Marks the blocks that are gone.
+pub fn mark_gone<R: Rack>(store: &Store<R>, marks: &mut Vec<bool>)
+    requires sound { IsSound R.Rack store.now }
+    requires size { length marks.old.items ≡ (shape_of store.now).n }
+    ensures size { length marks.new.items ≡ length marks.old.items }
+    ensures marked { (b : ℕ) → b < (shape_of store.now).n
+        → is_marked marks.new.items b ≡ (is_marked marks.old.items b || is_gone (table_of store.now) (members_of store.now) b) }
+{
+    for block in 0..store.shape().n {
+        let mark = marked_or_gone(store, block, marks[block as usize]);
+        marks[block as usize] = mark;
+    }
+}
+
+/// How many blocks are gone.
+pub fn count_gone<R: Rack>(store: &Store<R>) -> u32
+    requires { IsSound R.Rack store.now }
+    ensures { result ≡ count_upto (shape_of store.now).n (is_gone (table_of store.now) (members_of store.now)) }
+{
+    let mut count = 0;
+    for block in 0..store.shape().n {
+        if store.is_gone(block) {
+            count += 1;
+        }
+    }
+    count
+}
+
+/// Bits of members, with that of one which had another place.
+fn bit_left(bits: u32, long: u32, member: u8, was: u8) -> u32
+    requires here { member < 32 }
+    requires there { was < 32 }
+    ensures { BitStays long was bits member result }
+{
+    if long >> was & 1 == 1 {
+        with_bit(bits, member)
+    } else {
+        bits
+    }
+}
+
+/// The old place of the member at a new one.
+fn was_at(left: &[u8], member: u8) -> u8
+    requires there { member / 2 < length left.now }
+    requires within { All (λ x. x < 16) left.now }
+    ensures is { result ≡ member_before left.now member }
+    ensures low { result < 32 }
+{
+    2 * left[member as usize / 2] + member % 2
+}
+
+/// Bits of members, by the places that these get.
+fn bits_left(long: u32, left: &[u8]) -> u32
+    requires few { length left.now ≤ 16 }
+    requires within { All (λ x. x < 16) left.now }
+    ensures { (q : ℕ) → q / 2 < length left.now → is_bit result q ≡ is_bit long (member_before left.now q) }
+{
+    let mut bits = 0;
+    for member in 0..2 * left.len() as u8 {
+        bits = bit_left(bits, long, member, was_at(left, member));
+    }
+    bits
+}
+
+/// The label, whose bits are by the places that members get.
+pub fn label_left(label: &Option<KeptLabel>, left: &[u8]) -> Option<KeptLabel>
+    requires few { length left.now ≤ 16 }
+    requires within { All (λ x. x < 16) left.now }
+    ensures numbers { HaveSameNumbers label.now result }
+    ensures long { (q : ℕ) → q / 2 < length left.now → is_long result q ≡ is_long label.now (member_before left.now q) }
+{
+    match label {
+        Some(kept) => Some(KeptLabel {
+            long: bits_left(kept.long, left),
+            ..*kept
+        }),
+        None => None,
+    }
+}
