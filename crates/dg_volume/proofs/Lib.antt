@@ -11,6 +11,7 @@ mod FileLaws
 mod GoneLaws
 mod HomeLaws
 mod LabelLaws
+mod LeftLaws
 mod LeftLists
 mod ListedLaws
 mod LooseLaws
