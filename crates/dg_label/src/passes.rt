@@ -91,12 +91,7 @@ pub fn write_bodies<R: Rack>(store: &mut Store<R>, body: &[u8])
 }
 
 /// Makes a member as long as format 2 says of an array of the line, where it is good. One that is so long already isn't called.
-fn lengthen_one<R: Rack>(
-    store: &mut Store<R>,
-    line: &Shape,
-    label: &Option<KeptLabel>,
-    member: u8,
-)
+fn lengthen_one<R: Rack>(store: &mut Store<R>, line: &Shape, label: &Option<KeptLabel>, member: u8)
     requires sound { IsSound R.Rack store.old }
     requires member { member < 2 * (shape_of store.old).b }
     requires line { IsShape line.now }

@@ -7,6 +7,7 @@ use Rattle.dg_label.proofs.LabelLaws.{whole_extended}
 use Rattle.dg_label.proofs.PassLaws.{passes_more, passes_none}
 use Rattle.dg_label.proofs.SaveLaws.{extended_fronts, short_more, uncalled_more, uncalled_none}
 use Rattle.dg_model.specs.Saves.{member_length}
+use Rattle.dg_model.specs.declared.shapes.Shape.{Shape}
 use Rattle.dg_store.specs.Leaves.{CallsAtMost}
 use Rattle.dg_store.specs.Stores.{shape_of}
 use Rattle.dg_label.proofs.passes.lengthen.Goals as goal

@@ -10,6 +10,14 @@ use Rattle.dg_model.specs.declared.shapes.Shape.{Shape}
 use Rattle.dg_store.specs.Stores.{rack_of, shape_of}
 use Rattle.dg_label.proofs.saves.save.Goals as goal
 
+pub write_bodies-requires-clause-room : goal.write_bodies-requires-clause-room
+write_bodies-requires-clause-room g c =
+    let size = length c.args.body.now in
+    let same : shape_of c.lengthen.new.store ≡ shape_of c.args.store.now = c.lengthen.ensures.array.stays.shape ∙ c.open_seal.ensures.array.stays.shape in
+    let room : size ≤ room_of 2 (shape_of c.lengthen.new.store) = subst (λ (sh : Shape). size ≤ room_of 2 sh) (sym same) c.requires.body in
+    let fits : IsLineOf c.args.line.now (shape_of c.lengthen.new.store) = line_on c.args.line.now (shape_of c.args.store.now) (shape_of c.lengthen.new.store) same c.requires.labeled.fits in
+    have_room g.R.Rack c.args.line.now c.lengthen.new.store size fits c.lengthen.ensures.whole room
+
 pub returns-then-not-write_labels-clause-array : goal.returns-then-not-write_labels-clause-array
 returns-then-not-write_labels-clause-array g c =
     keeps_both g.R.Rack _ _ _ c.open_seal.ensures.array
