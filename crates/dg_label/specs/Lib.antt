@@ -1,4 +1,6 @@
 pub mod Labels
+pub mod LineLaws
+pub mod Lines
 pub mod Pages
 pub mod Passes
 pub mod Saves
