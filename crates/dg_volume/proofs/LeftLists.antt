@@ -1,18 +1,13 @@
 -- What is left of lists, one place after another.
-use Rattle.std.proofs.Common.{◌≡◌, ◌≢◌, ◌∙◌, ◌<◌, ◌≤◌, ◌+◌, ◌++◌, ◌&&◌, ◌||◌, ℕ, suc, Bool, true, false, List, [], ◌∷◌, length, map, get_or, take, filter, not, inl, inr, refl, sym, ap, subst, arith, if◌then◌else◌, add-one, zero-add}
+use Rattle.std.proofs.Common.{◌≡◌, ◌∙◌, ◌<◌, ◌+◌, ◌++◌, ◌&&◌, ◌||◌, ℕ, Bool, false, List, [], ◌∷◌, length, map, get_or, take, filter, not, sym, ap, arith, if◌then◌else◌, add-one, zero-add}
 use Rattle.std.specs.List.{range_with_len}
 use Rattle.std.proofs.Math.Seq.{take-suc}
-use Rattle.std.proofs.lemmas.Bool.{cases_eq, false≢true}
 use Rattle.std.proofs.lemmas.List.{get_or_default, map-append, same_lists}
 use Rattle.std.proofs.lemmas.List.Elements.{filter-append}
 use Rattle.std.proofs.lemmas.List.FromFn.{get_or-map-range_with_len, length-map-range_with_len}
-use Rattle.std.proofs.lemmas.Nat.Bits.{bit_at-zero}
-use Rattle.std.specs.Prelude.{◌==◌}
-use Rattle.dg_io.specs.Commits.{is_marked as is_bit}
 use Rattle.dg_model.proofs.ActionLists.{range_last}
 use Rattle.dg_model.specs.Marks.{is_marked}
-use Rattle.dg_model.specs.Regroups.{member_before}
-use Rattle.dg_volume.specs.Left.{BitStays, marked_too, unmarked}
+use Rattle.dg_volume.specs.Left.{marked_too, unmarked}
 
 -- ---- lists that grow at their end
 
@@ -49,27 +44,3 @@ unmarked_is gone old new size each = marks_are (λ b. is_marked old b && not (go
 pub marked_is : (gone : ℕ → Bool) (old new : List Bool) → length new ≡ length old → ((b : ℕ) → b < length old → is_marked new b ≡ (is_marked old b || gone b))
     → new ≡ marked_too gone old
 marked_is gone old new size each = marks_are (λ b. is_marked old b || gone b) (length old) new size each
-
--- ---- bits
-
--- the bits of the members below a bound, so far
-pub record AreBitsUpto (left : List ℕ) (long bound bits : ℕ) : Type 0 where
-  pub done : (q : ℕ) → q < bound → is_bit bits q ≡ is_bit long (member_before left q)
-  pub rest : (q : ℕ) → bound ≤ q → is_bit bits q ≡ false
-
-pub bits_begin : (left : List ℕ) (long : ℕ) → AreBitsUpto left long 0 0
-bits_begin left long = record { done = λ q low. absurd (omega (arith, low)); rest = λ q high. ap (λ (n : ℕ). n == 1) (bit_at-zero q) }
-
-pub bits_step : (left : List ℕ) (long bound bits was next : ℕ) → AreBitsUpto left long bound bits → was ≡ member_before left bound → BitStays long was bits bound next
-    → AreBitsUpto left long (bound + 1) next
-bits_step left long bound bits was next old at stays = record {
-  done = λ q low. elim (cases_eq q bound) [
-    | inl same ↦ subst (λ (p : ℕ). is_bit next p ≡ is_bit long (member_before left p)) (sym same) (here (is_bit long was) refl ∙ ap (is_bit long) at)
-    | inr apart ↦ stays.others q apart ∙ old.done q (omega (arith, low, apart))
-  ];
-  rest = λ q high. let apart : q ≢ bound = λ e. absurd (omega (arith, e, high)) in stays.others q apart ∙ old.rest q (omega (arith, high));
-}
-  where
-    here : (b : Bool) → is_bit long was ≡ b → is_bit next bound ≡ is_bit long was
-    here true is = stays.here is ∙ sym is
-    here false is = ap (λ (n : ℕ). is_bit n bound) (stays.none is) ∙ old.rest bound (omega arith) ∙ sym is

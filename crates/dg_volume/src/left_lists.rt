@@ -1,22 +1,17 @@
-// What is left of the lists of an array without its lost boundaries: places, marks and bits of members.
-ghost use Rattle.std.specs.Prelude.{◌≡◌, ◌≤◌, ◌<◌, ◌++◌, ◌*◌, ◌/◌, ◌∷◌, ◌&&◌, ◌||◌, ℕ, All, IfOk, OnOk, [], if◌then◌else◌, length, map, not, true, false};
-ghost use Rattle.dg_io.specs.Commits.{is_marked as is_bit};
-ghost use Rattle.dg_label.specs.Labels.{HaveSameNumbers, is_long};
+// What is left of the lists of an array without its lost boundaries.
+ghost use Rattle.std.specs.Prelude.{◌≡◌, ◌<◌, ◌++◌, ◌∷◌, ◌&&◌, ◌||◌, ℕ, IfOk, OnOk, [], if◌then◌else◌, length, map, not, true, false};
 ghost use Rattle.dg_label.specs.Seals.{HasGood, HasNoGood};
 ghost use Rattle.dg_model.specs.Lives.{boundary_at};
 ghost use Rattle.dg_model.specs.Marks.{is_marked};
 ghost use Rattle.dg_model.specs.Members.{is_lost};
 ghost use Rattle.dg_model.specs.Moves.{count_upto};
-ghost use Rattle.dg_model.specs.Regroups.{member_before};
 ghost use Rattle.dg_model.specs.Sites.{is_gone};
 ghost use Rattle.dg_store.specs.Reduced.{left_in};
 ghost use Rattle.dg_store.specs.Stores.{IsSound, members_of, shape_of, table_of};
-ghost use Rattle.dg_volume.specs.Left.{BitStays};
 
 use crate::in_use::InUse;
 use crate::saves::is_good;
 use dg_io::{NoMemory, Rack};
-use dg_label::{KeptLabel, with_bit};
 use dg_store::Store;
 use std::alloc::Global;
 
@@ -141,56 +136,4 @@ pub fn count_gone<R: Rack>(store: &Store<R>) -> u32
         }
     }
     count
-}
-
-/// Bits of members, with that of one which had another place.
-fn bit_left(bits: u32, long: u32, member: u8, was: u8) -> u32
-    requires here { member < 32 }
-    requires there { was < 32 }
-    ensures { BitStays long was bits member result }
-{
-    if long >> was & 1 == 1 {
-        with_bit(bits, member)
-    } else {
-        bits
-    }
-}
-
-/// The old place of the member at a new one.
-fn was_at(left: &[u8], member: u8) -> u8
-    requires there { member / 2 < length left.now }
-    requires within { All (λ x. x < 16) left.now }
-    ensures is { result ≡ member_before left.now member }
-    ensures low { result < 32 }
-{
-    2 * left[member as usize / 2] + member % 2
-}
-
-/// Bits of members, by the places that these get.
-fn bits_left(long: u32, left: &[u8]) -> u32
-    requires few { length left.now ≤ 16 }
-    requires within { All (λ x. x < 16) left.now }
-    ensures { (q : ℕ) → q / 2 < length left.now → is_bit result q ≡ is_bit long (member_before left.now q) }
-{
-    let mut bits = 0;
-    for member in 0..2 * left.len() as u8 {
-        bits = bit_left(bits, long, member, was_at(left, member));
-    }
-    bits
-}
-
-/// The label, whose bits are by the places that members get.
-pub fn label_left(label: &Option<KeptLabel>, left: &[u8]) -> Option<KeptLabel>
-    requires few { length left.now ≤ 16 }
-    requires within { All (λ x. x < 16) left.now }
-    ensures numbers { HaveSameNumbers label.now result }
-    ensures long { (q : ℕ) → q / 2 < length left.now → is_long result q ≡ is_long label.now (member_before left.now q) }
-{
-    match label {
-        Some(kept) => Some(KeptLabel {
-            long: bits_left(kept.long, left),
-            ..*kept
-        }),
-        None => None,
-    }
 }
