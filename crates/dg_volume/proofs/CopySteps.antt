@@ -196,7 +196,7 @@ module _ {S R : Type 0} (phase : phases.Ghosts S) (rack : Ghosts R) where
     abbrev next_state : State → List (List ℕ) → State
     next_state rest V = state_of phase rack b (on_label a b h.labels.opens rest) V
 
-    next_in : {P : Type 0} → (rest : State) (V : List (List ℕ)) → StandsLabeled rack a.store a.label rest.label → (Known P rack a → StandsFor phase rack a V) → StandsIn phase rack P b (next_state rest V)
+    next_in : {P : Type 0} → (rest : State) (V : List (List ℕ)) → StandsUnder rack a rest.label → (Known P rack a → StandsFor phase rack a V) → StandsIn phase rack P b (next_state rest V)
     next_in rest V label holds = record {
       is = refl;
       label = h.labels.stands rest.label label;
@@ -216,7 +216,7 @@ module _ {S R : Type 0} (phase : phases.Ghosts S) (rack : Ghosts R) where
 
     -- so many of the files may have got copies
     spreads : {P : Type 0} → (count gained : ℕ) → HasSpread wants a.homes hot count gained a.copies b.copies a.store b.store → (rest : State) (V : List (List ℕ))
-        → StandsLabeled rack a.store a.label rest.label → rest.recent ≡ hot → (Known P rack a → StandsFor phase rack a V)
+        → StandsUnder rack a rest.label → rest.recent ≡ hot → (Known P rack a → StandsFor phase rack a V)
         → Spreads (Known P rack b) (state_of phase rack a rest V) count gained (next_state rest V)
     spreads count gained has rest V label recent holds = record {
       wants = wants;
@@ -255,7 +255,7 @@ module _ {S R : Type 0} (phase : phases.Ghosts S) (rack : Ghosts R) where
     }
 
   hot_steps : (a b : Volume S R) (hot : List ℕ) (event : Event) (reply : Reply)
-      → ((origin : Origin) (rest : State) (V : List (List ℕ)) → StandsLabeled rack a.store a.label rest.label → rest.recent ≡ hot → (Known (WasHeld origin) rack a → StandsFor phase rack a V)
+      → ((origin : Origin) (rest : State) (V : List (List ℕ)) → StandsUnder rack a rest.label → rest.recent ≡ hot → (Known (WasHeld origin) rack a → StandsFor phase rack a V)
       → StepsAt phase rack (WasHeld origin) (λ recent. recent) a rest V event reply b)
       → StepsHot phase phase rack hot a event reply b
   hot_steps a b hot event reply go origin state st recent =

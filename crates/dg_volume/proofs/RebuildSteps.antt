@@ -386,7 +386,7 @@ module _ {S R : Type 0} (phase : phases.Ghosts S) (rack : Ghosts R) where
 
     -- ---- states
 
-    module _ {P : Type 0} (rest : State) (V : List (List ℕ)) (label : StandsLabeled rack a.store a.label rest.label) (size : length V ≡ (shape_of a).n) (holds : Known P rack a → StandsFor phase rack a V) where
+    module _ {P : Type 0} (rest : State) (V : List (List ℕ)) (label : StandsUnder rack a rest.label) (size : length V ≡ (shape_of a).n) (holds : Known P rack a → StandsFor phase rack a V) where
       abbrev was : State
       was = state_of phase rack a rest V
 
@@ -459,7 +459,7 @@ module _ {S R : Type 0} (phase : phases.Ghosts S) (rack : Ghosts R) where
 
   -- a step of each state that has a block for each of the array's
   sized : (a b : Volume S R) (event : Event) (reply : Reply)
-      → ((origin : Origin) (rest : State) (V : List (List ℕ)) → StandsLabeled rack a.store a.label rest.label → length V ≡ (shape_of a).n
+      → ((origin : Origin) (rest : State) (V : List (List ℕ)) → StandsUnder rack a rest.label → length V ≡ (shape_of a).n
       → (Known (WasHeld origin) rack a → StandsFor phase rack a V) → StepsAt phase rack (WasHeld origin) (λ recent. recent) a rest V event reply b)
       → StepsSized phase phase rack a event reply b
   sized a b event reply go origin state st size =
@@ -551,7 +551,7 @@ module _ {S R : Type 0} (phase : phases.Ghosts S) (rack : Ghosts R) where
   pub opened_spares : (law : LooseBlocksChange) (a b : Volume S R) → HasOpened a b → SparesFiles phase rack a b
   opened_spares law a b h = still_spares law a b (keeps_opened a b h)
 
-  breaks_at_once : {P : Type 0} → (a b : Volume S R) (s : ℕ) → IsSound rack a.store → (h : HasOpened a b) (rest : State) (V : List (List ℕ)) (label : StandsLabeled rack a.store a.label rest.label)
+  breaks_at_once : {P : Type 0} → (a b : Volume S R) (s : ℕ) → IsSound rack a.store → (h : HasOpened a b) (rest : State) (V : List (List ℕ)) (label : StandsUnder rack a rest.label)
       → BreaksOff (Known P rack b) (state_of phase rack a rest V) s (kept_state phase rack a b (keeps_opened a b h) rest V)
   breaks_at_once a b s sound h rest V label =
       let keeps = keeps_opened a b h in
@@ -685,7 +685,7 @@ module _ {S R : Type 0} (phase : phases.Ghosts S) (rack : Ghosts R) where
 
   breaks_off : {P : Type 0} → (a : Volume S R) (m : Store R) (s : ℕ) (marks : List Bool) (before after : List ℕ) (b : Volume S R) (none : before ≡ []) (all : IsUsual a m marks after b)
       (left : arrays.Stays rack m b.store) (k : answers.HasBrokenOff rack marks s before after m b.store)
-      (rest : State) (V : List (List ℕ)) (label : StandsLabeled rack a.store a.label rest.label) (size : length V ≡ (shape_of a).n) (holds : Known P rack a → StandsFor phase rack a V)
+      (rest : State) (V : List (List ℕ)) (label : StandsUnder rack a rest.label) (size : length V ≡ (shape_of a).n) (holds : Known P rack a → StandsFor phase rack a V)
       → BreaksOff (Known P rack b) (state_of phase rack a rest V) s (next a m marks s after b all (passed_broken a m s marks before after b none all.opening k) rest V label size holds)
   breaks_off a m s marks before after b none all left k rest V label size holds = record {
     low = k.low;

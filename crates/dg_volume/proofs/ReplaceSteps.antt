@@ -93,7 +93,7 @@ module _ {S R : Type 0} (phase : phases.Ghosts S) (rack : Ghosts R) where
     pub side : j < 2
     pub beside : IsBeside phase rack a b
     pub levels : b.levels.fragment ≡ a.levels.fragment
-    pub labeled : IsLabeled rack a.store a.label
+    pub labeled : HasLabel rack a
     pub mid : Option KeptLabel
     pub opening : OpensWhere rack writes a.store m a.label mid
     pub noted : answer ≡ Replaced → NotesLong (2 * s + j) mid b.label
@@ -487,7 +487,7 @@ module _ {S R : Type 0} (phase : phases.Ghosts S) (rack : Ghosts R) where
           counts = rack.counts (rack_is i);
         }
 
-    same_next : {P : Type 0} → writes ≡ false → (rest : State) (V : List (List ℕ)) → StandsLabeled rack a.store a.label rest.label → (Known P rack a → StandsFor phase rack a V)
+    same_next : {P : Type 0} → writes ≡ false → (rest : State) (V : List (List ℕ)) → StandsUnder rack a rest.label → (Known P rack a → StandsFor phase rack a V)
         → StandsIn phase rack P b (state_of phase rack b rest V)
     same_next none rest V label holds =
         quiet_in phase rack a b rest V label replace_keeps (quiet_where none ∙ ap (λ (x : Store R). stores.rack_of x) (h.opening.quiet none).0)
@@ -499,7 +499,7 @@ module _ {S R : Type 0} (phase : phases.Ghosts S) (rack : Ghosts R) where
   replace_leaves a s j answer writes m b well h = leaves phase rack a b well (replace_keeps a s j answer writes m b h)
 
   module _ (a : Volume S R) (s j : ℕ) (answer : ReplaceAnswer) (writes : Bool) (m : Store R) (b : Volume S R) (h : HasReplaced a s j answer writes m b) (rest : State) (V : List (List ℕ)) where
-    passes_replaced : StandsLabeled rack a.store a.label rest.label
+    passes_replaced : StandsUnder rack a rest.label
         → Passes (state_of phase rack a rest V) (kept_state phase rack a b (replace_keeps a s j answer writes m b h) rest V)
     passes_replaced label =
         let keeps = replace_keeps a s j answer writes m b h in

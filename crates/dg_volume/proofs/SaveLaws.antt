@@ -253,7 +253,7 @@ module _ {S R : Type 0} (phase : phases.Ghosts S) (rack : Ghosts R) where
         (next : State) × StandsIn phase rack P after next × Step (Known P rack after) (state_of phase rack a rest V) Save reply next × (next.recent ≡ rest.recent)
 
     by_state : (hot : List ℕ) (reply : Reply)
-        → ((origin : Origin) (rest : State) (V : List (List ℕ)) → StandsLabeled rack a.store a.label rest.label
+        → ((origin : Origin) (rest : State) (V : List (List ℕ)) → StandsUnder rack a rest.label
         → (Known (WasHeld origin) rack a → StandsFor phase rack a V) → rest.recent ≡ hot → Goes (WasHeld origin) rest V reply)
         → StepsHot phase phase rack hot a Save reply after
     by_state hot reply goes origin state st recent =
@@ -264,7 +264,7 @@ module _ {S R : Type 0} (phase : phases.Ghosts S) (rack : Ghosts R) where
         → AnswersSave rack body a.store store a.label label (Saved sequence) → StepsHot phase phase rack hot a Save (SavedReply sequence) after
     saves hot body sequence sound says can answer = by_state hot (SavedReply sequence) goes
       where
-        goes : (origin : Origin) (rest : State) (V : List (List ℕ)) → StandsLabeled rack a.store a.label rest.label → (Known (WasHeld origin) rack a → StandsFor phase rack a V) → rest.recent ≡ hot
+        goes : (origin : Origin) (rest : State) (V : List (List ℕ)) → StandsUnder rack a rest.label → (Known (WasHeld origin) rack a → StandsFor phase rack a V) → rest.recent ≡ hot
             → Goes (WasHeld origin) rest V (SavedReply sequence)
         goes origin rest V stands holds recent =
             let last : Option LastLabel = Some (saved_label store sequence body) in
@@ -307,7 +307,7 @@ module _ {S R : Type 0} (phase : phases.Ghosts S) (rack : Ghosts R) where
 
     -- ---- no member is good
 
-    forgets : (last : Option LastLabel) → StandsLabeled rack a.store a.label last → label ≡ a.label → HasNoGood store → StandsLabeled rack store label (option_map forgotten last)
+    forgets : (last : Option LastLabel) → StandsUnder rack a last → label ≡ a.label → HasNoGood store → StandsLabeled rack store label (option_map forgotten last)
     forgets last stands same none = subst (λ (k : Option KeptLabel). StandsLabeled rack store k (option_map forgotten last)) (sym same) (record {
       kept = kept_of last a.label stands.kept;
       holds = held last;
@@ -347,7 +347,7 @@ module _ {S R : Type 0} (phase : phases.Ghosts S) (rack : Ghosts R) where
         → StepsHot phase phase rack hot a Save (LostReply (boundary_at (live_of a) s)) after
     saves_none hot body s fits answer = by_state hot (LostReply (boundary_at (live_of a) s)) goes
       where
-        goes : (origin : Origin) (rest : State) (V : List (List ℕ)) → StandsLabeled rack a.store a.label rest.label → (Known (WasHeld origin) rack a → StandsFor phase rack a V) → rest.recent ≡ hot
+        goes : (origin : Origin) (rest : State) (V : List (List ℕ)) → StandsUnder rack a rest.label → (Known (WasHeld origin) rack a → StandsFor phase rack a V) → rest.recent ≡ hot
             → Goes (WasHeld origin) rest V (LostReply (boundary_at (live_of a) s))
         goes origin rest V stands holds recent =
             let last : Option LastLabel = option_map forgotten rest.label in (

@@ -1,6 +1,6 @@
 // Members that are replaced and refilled.
 ghost use Rattle.std.specs.Prelude.{◌≡◌, ◌≢◌, ◌⊎◌, ◌+◌, ◌*◌, ◌<◌, ℕ, IfOk, IfSome, false, true, length, List};
-ghost use Rattle.dg_label.specs.Labels.{IsLabeled};
+ghost use Rattle.dg_label.specs.Labels.{HasOwnSeal};
 ghost use Rattle.dg_model.specs.Marks.{is_marked};
 ghost use Rattle.dg_model.specs.Members.{is_lost};
 ghost use Rattle.dg_model.specs.declared.events.Event.{Event};
@@ -193,7 +193,7 @@ fn open_refill<R: Rack>(
     limit: u32,
 ) -> Option<RebuildAnswer>
     requires sound { IsSound R.Rack store.old }
-    requires labeled { IsLabeled R.Rack store.old label.old }
+    requires seal { HasOwnSeal (stores.shape_of store.old) label.old }
     requires boundary { boundary < (stores.shape_of store.old).b }
     ensures { OpensRefill R.Rack boundary limit store.old store.new label.old label.new result }
 {

@@ -2,7 +2,7 @@
 ghost use Rattle.std.specs.Prelude.{◌≡◌, ◌+◌, ◌*◌, ◌<◌, ℕ, All, List, Option, false, true, length, max, min, IfOk, OnErr};
 ghost use Rattle.std.specs.List.{list_any};
 ghost use Rattle.dg_hot.specs.Spreads.{HasSpread, HasSpreadSome, IsLost};
-ghost use Rattle.dg_label.specs.Labels.{IsLabeled};
+ghost use Rattle.dg_label.specs.Labels.{HasOwnSeal};
 ghost use Rattle.dg_model.specs.Copies.{lacks_copy};
 ghost use Rattle.dg_model.specs.Homes.{Ascend};
 ghost use Rattle.dg_model.specs.Moves.{AreTargets, missing_in};
@@ -31,7 +31,7 @@ use std::alloc::Global;
 /// Opens the seal where members are to be written.
 pub fn open_where<R: Rack>(store: &mut Store<R>, label: &mut Option<KeptLabel>, writes: bool)
     requires sound { IsSound R.Rack store.old }
-    requires labeled { IsLabeled R.Rack store.old label.old }
+    requires seal { HasOwnSeal (shape_of store.old) label.old }
     ensures { OpensWhere R.Rack writes store.old store.new label.old label.new }
 {
     if !writes {
@@ -48,7 +48,7 @@ pub fn write_opened<R: Rack>(
     buf: &[u8],
 ) -> Result<StoreWrite, NoMemory>
     requires sound { IsSound R.Rack store.old }
-    requires labeled { IsLabeled R.Rack store.old label.old }
+    requires seal { HasOwnSeal (shape_of store.old) label.old }
     requires whole { has_lost (shape_of store.old) (members_of store.old) ≡ false }
     requires range { block < (shape_of store.old).n }
     requires size { length buf.now ≡ (shape_of store.old).l }
@@ -72,7 +72,7 @@ pub fn move_within<R: Rack>(
     limit: u32,
 ) -> Result<TendAnswer, NoMemory>
     requires sound { IsSound R.Rack store.old }
-    requires labeled { IsLabeled R.Rack store.old label.old }
+    requires seal { HasOwnSeal (shape_of store.old) label.old }
     requires size { blocks_in targets.now ≡ (shape_of store.old).n }
     requires targets { AreTargets (wants_of targets.now) (table_of store.old) }
     requires live { has_lost (shape_of store.old) (members_of store.old) ≡ false }
@@ -103,7 +103,7 @@ pub fn spread_recent<R: Rack>(
     copies: &mut Homes,
 ) -> Result<DiffuseAnswer, NoMemory>
     requires sound { IsSound R.Rack store.old }
-    requires labeled { IsLabeled R.Rack store.old label.old }
+    requires seal { HasOwnSeal (shape_of store.old) label.old }
     requires whole { has_lost (shape_of store.old) (members_of store.old) ≡ false }
     requires placed { (wants : List (Option Want)) × AreWanted (table_of store.old) inference.now wants
         × IsPlaced wants (table_of store.old) homes.now copies.old }

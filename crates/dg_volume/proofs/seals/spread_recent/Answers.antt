@@ -46,13 +46,13 @@ returns-then-not-any_lacks_copy-clause-diffused g c wants wanted n is =
     (none_in n is) (none_copied g.R.Rack wants c.args.homes.now c.args.hot.now c.args.copies.now c.args.store.now none)
 
 pub returns-then-not-any_lacks_copy-clause-label : goal.returns-then-not-any_lacks_copy-clause-label
-returns-then-not-any_lacks_copy-clause-label g c = relabels_none g.R.Rack c.args.store.now c.args.label.now c.requires.labeled
+returns-then-not-any_lacks_copy-clause-label g c = relabels_none g.R.Rack c.args.store.now c.args.label.now
 
 pub returns-in_err-blocks-clause-label : goal.returns-in_err-blocks-clause-label
-returns-in_err-blocks-clause-label g c = relabels_none g.R.Rack c.args.store.now c.args.label.now c.requires.labeled
+returns-in_err-blocks-clause-label g c = relabels_none g.R.Rack c.args.store.now c.args.label.now
 
 pub returns-in_err-recent-clause-label : goal.returns-in_err-recent-clause-label
-returns-in_err-recent-clause-label g c = relabels_none g.R.Rack c.args.store.now c.args.label.now c.requires.labeled
+returns-in_err-recent-clause-label g c = relabels_none g.R.Rack c.args.store.now c.args.label.now
 
 pub returns-in-Some-clause-array : goal.returns-in-Some-clause-array
 returns-in-Some-clause-array g c = opened_array g.R.Rack c.args.store.now c.open_seal.new.store c.open_seal.ensures.array

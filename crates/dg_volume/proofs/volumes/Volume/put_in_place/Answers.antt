@@ -215,12 +215,11 @@ returns-in-Tended-clause-put g c done =
     (subst (λ (x : Table). SameWritten x (table_of last)) read.reads.table t.written)
     (rw c.in-Tended.is at t.lost) few (c.limit_of_all.ensures.moves (wants_of targets) (2 ^ 32 - 1) (table_of mid) few) (rw c.in-Tended.is at t.moves) t.still
 
-pub move_within-requires-clause-labeled : goal.move_within-requires-clause-labeled
-move_within-requires-clause-labeled g c =
+pub move_within-requires-clause-seal : goal.move_within-requires-clause-seal
+move_within-requires-clause-seal g c =
     let a = c.args.self.now in
     let read = read_both g.R.Rack a.store c.checked.new.store c.planned.new.store c.in_ok-unsettled.ensures.reads c.in_ok-lost.ensures.reads in
-    let first = relabels_read g.R.Rack a.store c.planned.new.store a.label c.requires.well.labeled read.reads in
-    first.labeled
+    seal_on (shape_of a.store) (shape_of c.planned.new.store) a.label read.reads.keeps.shape c.requires.well.labeled.sealed
 
 pub returns-in_err-unsettled-clause-leaves : goal.returns-in_err-unsettled-clause-leaves
 returns-in_err-unsettled-clause-leaves g c =

@@ -97,10 +97,10 @@ returns-clause-steps g c =
     })
     c.args.limit c.in-Lost-2.lost (record { loose = c.requires.loose; whole = c.in_default.ensures; in_use = c.requires.well.in_use }) refl (rw c.in-Lost-2.is at t.lost) cut
 
-pub move_within-requires-clause-labeled : goal.move_within-requires-clause-labeled
-move_within-requires-clause-labeled g c =
-    let first = relabels_read g.R.Rack c.args.self.now.store c.planned.new.store c.args.self.now.label c.requires.well.labeled c.in_ok-lost.ensures.reads.reads in
-    first.labeled
+pub move_within-requires-clause-seal : goal.move_within-requires-clause-seal
+move_within-requires-clause-seal g c =
+    let a = c.args.self.now in
+    seal_on (shape_of a.store) (shape_of c.planned.new.store) a.label c.in_ok-lost.ensures.reads.reads.keeps.shape c.requires.well.labeled.sealed
 
 pub returns-in_err-lost-clause-leaves : goal.returns-in_err-lost-clause-leaves
 returns-in_err-lost-clause-leaves g c =
