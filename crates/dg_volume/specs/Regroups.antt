@@ -1,14 +1,12 @@
 -- What going on without lost boundaries leaves of a volume.
-use Rattle.std.specs.Prelude.{◌≡◌, ◌⊎◌, ◌≤◌, ◌<◌, ◌+◌, ◌/◌, ℕ, Bool, true, List, [], Option, Some, length, map}
-use Rattle.dg_infer.specs.Meanings.{KeptInference}
+use Rattle.std.specs.Prelude.{◌≡◌, ◌⊎◌, ◌≤◌, ◌+◌, ℕ, Bool, true, List, [], Some, length, map}
 use Rattle.dg_io.specs.Reduced.{LeavesLeft}
 use Rattle.dg_io.specs.declared.outside.Rack.{Ghosts}
-use Rattle.dg_label.specs.Labels.{HaveSameNumbers, is_long}
-use Rattle.dg_label.specs.declared.labels.KeptLabel.{KeptLabel}
+use Rattle.dg_label.specs.Lefts.{KeepsLeft as KeepsLabelLeft}
 use Rattle.dg_model.specs.Lives.{boundary_at}
 use Rattle.dg_model.specs.Members.{is_lost}
 use Rattle.dg_model.specs.Moves.{count_upto}
-use Rattle.dg_model.specs.Regroups.{homes_left, member_before}
+use Rattle.dg_model.specs.Regroups.{homes_left}
 use Rattle.dg_model.specs.Sites.{is_gone}
 use Rattle.dg_model.specs.States.{State, has_lost}
 use Rattle.dg_model.specs.Steps.{Step}
@@ -17,7 +15,6 @@ use Rattle.dg_model.specs.declared.events.Event.TheVariants.{Regroup}
 use Rattle.dg_model.specs.declared.homes.Home.{Home}
 use Rattle.dg_model.specs.declared.phases.Phase.TheVariants.{Loose as LoosePhase}
 use Rattle.dg_model.specs.declared.replies.Reply.TheVariants.{Regrouped as RegroupedReply, TooFew as TooFewReply, Whole as WholeReply}
-use Rattle.dg_model.specs.declared.shapes.Shape.{Shape}
 use Rattle.dg_regroup.specs.Cuts.{IsTooFew}
 use Rattle.dg_store.specs.Leaves.{Stays}
 use Rattle.dg_store.specs.Reduced.{IsReduced, blocks_left, left_in, reduced}
@@ -29,8 +26,7 @@ use Rattle.dg_volume.specs.Opens.{IsRestored}
 use Rattle.dg_volume.specs.Origins.{Origin, WasHeld}
 use Rattle.dg_volume.specs.Phases.{kept_in, phase_in}
 use Rattle.dg_volume.specs.Settles.{GoesBy, KeepsArray}
-use Rattle.dg_volume.specs.Volumes.{IsWell, Known, StandsIn, Tells, any_phase, cut_of, given_of, live_of, marks_of, members_of, rack_of, shape_of, table_of}
-use Rattle.dg_volume.specs.declared.in_use.InUse.{InUse}
+use Rattle.dg_volume.specs.Volumes.{IsWell, Known, StandsIn, Tells, any_phase, cut_of, given_of, line_of, live_of, marks_of, members_of, rack_of, shape_of, table_of}
 use Rattle.dg_volume.specs.declared.phases.AnyPhase.{AnyPhase}
 use Rattle.dg_volume.specs.declared.phases.AnyPhase.TheVariants.{Loose, Settled, Worn}
 use Rattle.dg_volume.specs.declared.phases.InPhase as phases
@@ -40,10 +36,6 @@ use Rattle.dg_volume.specs.declared.regroups.RegroupAnswer.TheVariants.{Regroupe
 use Rattle.dg_volume.specs.declared.volumes.Volume.{Volume}
 
 -- ---- what any call leaves, also one that takes boundaries out of use
-
--- the numbers of the array's first line
-abbrev pub line_of : {S R : Type 0} → Volume S R → Shape
-line_of volume = record (shape_of volume) { b = volume.in_use.boundaries }
 
 -- A volume of the same first line, with which all is well. No count of all calls fell.
 pub record GoesOn {S T R : Type 0} (to : phases.Ghosts T) (rack : Ghosts R) (old : Volume S R) (new : Volume T R) : Type 0 where
@@ -68,16 +60,10 @@ pub record AreRemains {R : Type 0} (store : Store R) (homes copies : List Home) 
   pub map_is : remains.map ≡ reduced store
   pub is_table : IsTable remains.map
   pub homes_are : remains.homes ≡ homes_left (left_in store) copies homes
-  pub places_are : remains.places.items ≡ left_in store
   pub live_is : remains.live.items ≡ map (boundary_at live) (left_in store)
   pub bytes : remains.blank.l ≡ (stores.shape_of store).l
   pub number : remains.blank.n ≡ (stores.shape_of store).n
   pub marks : length remains.blank.pending ≡ (stores.shape_of store).n
-
--- the label with the bits of members by the places that these get
-pub record IsLabelLeft (left : List ℕ) (before after : Option KeptLabel) : Type 0 where
-  pub numbers : HaveSameNumbers before after
-  pub long : (q : ℕ) → q / 2 < length left → is_long after q ≡ is_long before (member_before left q)
 
 -- whether a block is gone
 abbrev pub gone_of : {S R : Type 0} → Volume S R → ℕ → Bool
@@ -94,13 +80,16 @@ pub record IsTakenOut {R : Type 0} (rack : Ghosts R) (boundaries : R → ℕ) (d
   pub cut_is : cut_of new ≡ marked_too (gone_of old) (cut_of old)
   pub homes_are : new.homes ≡ homes_left (left_in old.store) old.copies old.homes
   pub copies_are : new.copies ≡ []
-  pub levels_are : new.levels ≡ old.levels
+  pub levels_are : new.levels.fragment ≡ old.levels.fragment
   pub given_is : new.given ≡ old.given
-  pub label_is : IsLabelLeft (left_in old.store) old.label new.label
+  pub label_is : KeepsLabelLeft (left_in old.store) old.label new.label
 
--- how many boundaries and blocks it is without
-abbrev pub answer_out : {R : Type 0} → Volume AnyPhase R → RegroupAnswer
-answer_out old = Regrouped (count_upto (shape_of old).b (is_lost (members_of old))) (count_upto (shape_of old).n (gone_of old))
+-- how many boundaries are lost, and how many blocks are gone by that
+abbrev pub lost_count : {S R : Type 0} → Volume S R → ℕ
+lost_count volume = count_upto (shape_of volume).b (is_lost (members_of volume))
+
+abbrev pub gone_count : {S R : Type 0} → Volume S R → ℕ
+gone_count volume = count_upto (shape_of volume).n (gone_of volume)
 
 -- the phase of what is left: worn where a boundary is lost meanwhile, and else loose
 abbrev pub IsPhaseLeft : {R : Type 0} → Ghosts R → Store R → Store R → List Bool → AnyPhase → Type 0
@@ -121,17 +110,19 @@ pub record TakesOut {R : Type 0} (rack : Ghosts R) (boundaries : R → ℕ) (dro
   pub below : dropped (stores.rack_of mid) (lost_bits (stores.members_of mid) (stores.shape_of mid).b) (stores.rack_of left)
   pub read : Stays rack left new
 
--- what the content of a step may rest on where boundaries were taken out of use: the members of these told their bytes, too
-abbrev pub WasTold : {R : Type 0} → Ghosts R → Origin → Store R → Type 0
-WasTold rack origin mid = WasHeld origin × TellsAll rack mid
+-- What the content of a step rests on where boundaries were taken out of use: all members of the array before told their bytes, those of these
+-- boundaries too.
+pub record WasTold {R : Type 0} (rack : Ghosts R) (P : Type 0) (mid : Store R) : Type 0 where
+  pub held : P
+  pub tells : TellsAll rack mid
 
 -- Boundaries were taken out of use, and blocks with them. Whichever state the volume was in, it made the step of that.
 pub record IsRegrouped {R : Type 0} (rack : Ghosts R) (boundaries : R → ℕ) (dropped : R → ℕ → R → Type 0) (r c : ℕ) (old new : Volume AnyPhase R) : Type 0 where
   pub out : TakesOut rack boundaries dropped old.store new.store
   pub given_is : given_of new ≡ given_of old
   pub steps : (origin : Origin) (state : State) → StandsIn any_phase rack (WasHeld origin) old state →
-      (next : State) × StandsIn any_phase rack (WasTold rack origin out.mid) new next
-      × Step (Known (WasTold rack origin out.mid) rack new) state Regroup (RegroupedReply r c) next × (next.recent ≡ state.recent)
+      (next : State) × StandsIn any_phase rack (WasTold rack (WasHeld origin) out.mid) new next
+      × Step (Known (WasTold rack (WasHeld origin) out.mid) rack new) state Regroup (RegroupedReply r c) next × (next.recent ≡ state.recent)
 
 -- by each answer
 abbrev pub AnswersRegroup : {R : Type 0} → Ghosts R → (R → ℕ) → (R → ℕ → R → Type 0) → Volume AnyPhase R → Volume AnyPhase R → RegroupAnswer → Type 0

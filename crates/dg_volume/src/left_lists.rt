@@ -29,13 +29,27 @@ pub fn has_good<R: Rack>(store: &Store<R>) -> bool
     false
 }
 
-/// Whether a boundary isn't lost.
-fn is_left<R: Rack>(store: &Store<R>, place: u8) -> bool
+/// Whether a boundary is lost.
+fn is_lost<R: Rack>(store: &Store<R>, place: u8) -> bool
     requires sound { IsSound R.Rack store.now }
     requires within { place < (shape_of store.now).b }
-    ensures { result ≡ not (is_lost (members_of store.now) place) }
+    ensures { result ≡ is_lost (members_of store.now) place }
 {
-    is_good(store, 2 * place) || is_good(store, 2 * place + 1)
+    !is_good(store, 2 * place) && !is_good(store, 2 * place + 1)
+}
+
+/// How many boundaries are lost.
+pub fn count_lost<R: Rack>(store: &Store<R>) -> u32
+    requires { IsSound R.Rack store.now }
+    ensures { result ≡ count_upto (shape_of store.now).b (is_lost (members_of store.now)) }
+{
+    let mut count = 0;
+    for place in 0..store.shape().b {
+        if is_lost(store, place) {
+            count += 1;
+        }
+    }
+    count
 }
 
 /// Puts a boundary last, if it isn't lost.
@@ -44,7 +58,7 @@ fn push_left<R: Rack>(store: &Store<R>, left: &mut Vec<u8>, place: u8) -> Result
     requires within { place < (shape_of store.now).b }
     ensures { OnOk result (left.new.items ≡ left.old.items ++ (if not (is_lost (members_of store.now) place) then place ∷ [] else [])) }
 {
-    if !is_left(store, place) {
+    if is_lost(store, place) {
         return Ok(());
     }
     match left.push(place) {

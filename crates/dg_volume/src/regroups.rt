@@ -7,22 +7,22 @@ ghost use Rattle.dg_store.specs.Stores.{IsSound};
 ghost use Rattle.dg_store.specs.Stores as stores;
 ghost use Rattle.dg_volume.specs.Phases.{kept_in, phase_in};
 ghost use Rattle.dg_volume.specs.Planned.{HasReadArray};
-ghost use Rattle.dg_volume.specs.Regroups.{AnswersRegroup, AreRemains, GoesOn, HasBoundaries, HasTooFew, IsPhaseLeft, IsTakenOut, KeepsOrLeaves, answer_out};
+ghost use Rattle.dg_volume.specs.Regroups.{AnswersRegroup, AreRemains, GoesOn, HasBoundaries, HasTooFew, IsPhaseLeft, IsTakenOut, KeepsOrLeaves, gone_count, lost_count};
 ghost use Rattle.dg_volume.specs.Volumes.{IsWell, any_phase, given_of, live_of, marks_by, members_of, rack_of, shape_of};
 
 use crate::in_use::InUse;
-use crate::left_lists::{count_gone, has_good, label_left, mark_gone, numbers_at, places_left, unmark_gone};
-use crate::phases::{AnyPhase, InPhase, Loose, Worn};
-use crate::seals::open_where;
+use crate::left_lists::{count_gone, count_lost, has_good, mark_gone, numbers_at, places_left, unmark_gone};
+use crate::phases::{AnyPhase, Loose, Worn};
 use crate::volumes::Volume;
+use crate::writes::take_inference;
 use dg_infer::Inference;
 use dg_io::{NoMemory, Rack, Reduces};
+use dg_label::{keep_left, labels_are_left, open_seal};
 use dg_map::Map;
 use dg_plan::Homes;
 use dg_regroup::{CutOver, cut_over};
 use dg_store::{Store, bits_leave_the_live};
 use std::alloc::Global;
-use std::mem;
 use ufs_pointer::Levels;
 
 /// What became of going on without the lost boundaries.
@@ -38,14 +38,12 @@ pub enum RegroupAnswer {
 
 /// What is left of an array without its lost boundaries. All memory for it is taken.
 #[derive(Drop)]
-struct Remains {
+pub(crate) struct Remains {
     /// The sites that are left, under the new places of their boundaries.
     map: Map,
     /// The homes, under these places.
     homes: Homes,
-    /// The old places of the boundaries that are left.
-    places: Vec<u8>,
-    /// Their numbers in the first line.
+    /// The numbers of the boundaries that are left, by the first line.
     live: Vec<u8>,
     /// What is inferred until the volume was read anew.
     blank: Inference,
@@ -76,7 +74,6 @@ fn remains_of<R: Rack>(
     Ok(Some(Remains {
         map,
         homes,
-        places,
         live,
         blank,
     }))
@@ -88,10 +85,12 @@ fn take_marks(phase: &mut AnyPhase, pending: &mut Vec<bool>, blank: Inference)
     ensures phase { phase_in phase.new ≡ Phase.Loose }
     ensures kept { kept_in phase.new ≡ Some blank }
 {
-    let old = mem::replace(phase, AnyPhase::Loose(Loose { inference: blank }));
-    if let Some(inference) = old.into_inference() {
-        *pending = inference.into_marks();
-    }
+    let Some(inference) = take_inference(phase) else {
+        *phase = AnyPhase::Loose(Loose { inference: blank });
+        return;
+    };
+    *phase = AnyPhase::Loose(Loose { inference: blank });
+    *pending = inference.into_marks();
 }
 
 /// The phase of what is left of an array, by its volume. No block that was cut is gone: it reads as zeros.
@@ -124,21 +123,21 @@ impl<R: Reduces> Volume<AnyPhase, R> {
         requires boundaries { (shape_of self.old).b ≤ R.boundaries (rack_of self.old) }
         requires left { AreRemains self.old.store self.old.homes self.old.copies (live_of self.old) remains }
         ensures out { IsTakenOut R.Rack R.boundaries R.dropped remains self.old self.new }
-        ensures answer { result ≡ answer_out self.old }
+        ensures answer { result ≡ RegroupAnswer.Regrouped (lost_count self.old) (gone_count self.old) }
     {
         let Remains {
             map,
             homes,
-            places,
             live,
             blank,
         } = remains;
-        let boundaries = self.store.shape().b as u32 - places.len() as u32;
+        let boundaries = count_lost(&self.store);
         let blocks = count_gone(&self.store);
         take_marks(&mut self.phase, &mut self.pending, blank);
         unmark_gone(&self.store, &mut self.pending);
         mark_gone(&self.store, &mut self.in_use.cut);
-        self.label = label_left(&self.label, &places);
+        bits_leave_the_live(&self.store);
+        keep_left(&mut self.label, self.store.lost(), self.store.shape().b);
         self.store.reduce(map);
         self.in_use.live = live;
         self.homes = homes;
@@ -147,7 +146,8 @@ impl<R: Reduces> Volume<AnyPhase, R> {
     }
 
     /// Goes on without the lost boundaries: they are taken out of use, and the blocks that stood on them alone are cut. The seal of the label is
-    /// opened first, and boundaries that are lost by that are taken out with them. Then what blocks belong to is read anew.
+    /// opened first, on the members that are good, and boundaries that are lost by that are taken out with them. Then it is read anew what blocks
+    /// belong to.
     ///
     /// Want of memory leaves the volume as it was, but for the opened seal, or loose without the lost boundaries: then it isn't known what its
     /// blocks belong to. A rack of this name has as many boundaries as the array.
@@ -162,8 +162,11 @@ impl<R: Reduces> Volume<AnyPhase, R> {
         if !self.store.is_degraded() {
             return Ok(RegroupAnswer::Whole);
         }
-        let writes = has_good(&self.store);
-        open_where(&mut self.store, &mut self.label, writes);
+        if !has_good(&self.store) {
+            return Ok(RegroupAnswer::TooFew);
+        }
+        labels_are_left::<R>();
+        open_seal(&mut self.store, &mut self.label);
         let found = remains_of(alloc, &self.store, &self.homes, &self.copies, &self.in_use)?;
         let Some(remains) = found else {
             return Ok(RegroupAnswer::TooFew);
