@@ -1,5 +1,5 @@
 -- What stays of a label where an array goes on without its lost boundaries.
-use Rattle.std.proofs.Common.{◌≡◌, ◌≢◌, ◌∙◌, ◌≤◌, ◌<◌, ◌+◌, ◌*◌, ◌/◌, ◌%◌, ◌&&◌, ◌||◌, ℕ, suc, Bool, true, false, cond, not, List, [], ◌∷◌, All, inl, inr, filter, length, refl, sym, ap, subst, arith}
+use Rattle.std.proofs.Common.{◌≡◌, ◌≢◌, ◌∙◌, ◌≤◌, ◌<◌, ◌/◌, ◌&&◌, ◌||◌, ℕ, suc, Bool, true, false, cond, not, List, [], ◌∷◌, All, inl, inr, filter, length, refl, sym, ap, subst, arith}
 use Rattle.std.specs.Prelude.{IfSome, None, Option, Some, if◌then◌else◌, nat_lt, slice_index}
 use Rattle.std.specs.List.{list_any, range_with_len}
 use Rattle.std.specs.Option.{option_map}
@@ -7,7 +7,7 @@ use Rattle.std.proofs.lemmas.Bool.{and_parts, cases_lt, false≢true, le-ltb, lt
 use Rattle.std.proofs.lemmas.List.Elements.{All-filter}
 use Rattle.std.proofs.lemmas.List.FromFn.{get_or-range_with_len, length-range_with_len}
 use Rattle.dg_io.specs.declared.outside.Rack.{Ghosts}
-use Rattle.dg_label.specs.Labels.{AreNumbersOf, AreSized, HasLength, HaveSameNumbers, IsKeptOf, IsLabeled, IsOfBoundariesInUse, StandsLabeled, is_long, is_sealed}
+use Rattle.dg_label.specs.Labels.{AreNumbersOf, AreSized, HasLength, HaveSameNumbers, IsKeptOf, IsLabeled, IsOfBoundariesInUse, StandsLabeled, is_sealed}
 use Rattle.dg_label.specs.Lefts.{KeepsLeft, LabelsAreLeft, LabelsStandLeft}
 use Rattle.dg_label.specs.LineLaws.{same_numbers, same_seal}
 use Rattle.dg_label.specs.Lines.{IsLineOf}
@@ -69,10 +69,10 @@ left_fewer shape members lost =
 left_low : (shape : Shape) (members : ℕ → MemberState) (i : ℕ) → i < length (left_of shape members) → slice_index (left_of shape members) i < shape.b
 left_low shape members i within =
     let below : All (λ x. x < shape.b) (range_with_len 0 shape.b) = λ k d low.
-        let all = length-range_with_len 0 shape.b in
-        let here : k < shape.b = omega (arith, low, all) in
-        let e = get_or-range_with_len 0 shape.b k d here in
-        omega (arith, e, here) in
+    let all = length-range_with_len 0 shape.b in
+    let here : k < shape.b = omega (arith, low, all) in
+    let e = get_or-range_with_len 0 shape.b k d here in
+    omega (arith, e, here) in
     All-filter (λ x. not (is_lost members x)) (λ x. x < shape.b) (range_with_len 0 shape.b) below i 0 within
 
 -- ---- members

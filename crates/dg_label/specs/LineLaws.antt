@@ -6,7 +6,7 @@ use Rattle.dg_io.specs.declared.outside.Rack.{Ghosts}
 use Rattle.dg_label.specs.Labels.{AreNumbers, AreSized, HasOwnSeal, HaveSameNumbers, IsOfArray, StandsLabeled, is_sealed}
 use Rattle.dg_label.specs.Lines.{IsLineOf}
 use Rattle.dg_label.specs.declared.labels.KeptLabel.{KeptLabel}
-use Rattle.dg_model.specs.Saves.{body_place, member_length, room_of}
+use Rattle.dg_model.specs.Saves.{body_place, room_of}
 use Rattle.dg_model.specs.Seals.{LastLabel}
 use Rattle.dg_model.specs.Shapes.{IsShape}
 use Rattle.dg_model.specs.declared.shapes.Shape.{Shape}

@@ -1,5 +1,4 @@
-use Rattle.std.proofs.Common.{◌≡◌, ◌∙◌, ◌+◌, ◌<◌, ◌/◌, ◌++◌, ◌∷◌, ◌==◌, ℕ, List, [], ap, arith, false, length, length-append, subst, sym, true}
-use Rattle.std.specs.Int.{bit_at}
+use Rattle.std.proofs.Common.{◌≡◌, ◌∙◌, ◌+◌, ◌<◌, ◌/◌, ◌++◌, ◌∷◌, ℕ, List, [], ap, arith, false, length, length-append, subst, sym, true}
 use Rattle.dg_io.specs.Commits.{is_marked}
 use Rattle.dg_io.specs.Reduced.{member_before, places_left}
 use Rattle.dg_label.proofs.PlaceLaws.{AreBitsLeft, bits_one, left_one, left_same}
