@@ -4,7 +4,7 @@ use Rattle.std.specs.Prelude.{◌==◌, Err, IfOk, IfSome, None, Ok, Option, Res
 use Rattle.std.proofs.lemmas.Bool.{and_from, and_parts, both_ways, cases_Bool, cases_lt, false≢true, or_left}
 use Rattle.dg_io.specs.Told.{Extended, FitsIn, IsSame, Patched, Told}
 use Rattle.dg_io.specs.declared.outside.Rack.{Ghosts}
-use Rattle.dg_label.specs.Labels.{AreFresh, AreNumbers, AreNumbersOf, HasLength, HasOwnSeal, IsLabeled, IsOfArray, StandsLabeled, is_long, is_sealed, next_number, unsealed}
+use Rattle.dg_label.specs.Labels.{AreFresh, AreNumbers, AreNumbersOf, HasLength, IsLabeled, IsOfArray, StandsLabeled, is_long, is_sealed, next_number, unsealed}
 use Rattle.dg_io.specs.Commits.{is_marked}
 use Rattle.dg_label.specs.Pages.{LeavesFallen, OpensMember, PageFails, numbered, page_of}
 use Rattle.dg_label.specs.LineLaws.{line_itself, line_on, numbers_fit, place_is, room_fits, seal_on}

@@ -1,4 +1,5 @@
 pub mod Labels
+pub mod Lefts
 pub mod LineLaws
 pub mod Lines
 pub mod Pages
