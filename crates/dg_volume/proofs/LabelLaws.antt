@@ -4,7 +4,7 @@ use Rattle.std.specs.Prelude.{IfSome, None, Option, Some, drop, if◌then◌else
 use Rattle.std.proofs.lemmas.Bool.{and_parts, false≢true, le-ltb, lt-ltb}
 use Rattle.dg_io.specs.Told.{IsSame, Told, Torn}
 use Rattle.dg_io.specs.declared.outside.Rack.{Ghosts}
-use Rattle.dg_label.specs.Labels.{AreFresh, AreNumbers, AreNumbersOf, AreSized, HasLength, HaveSameNumbers, IsKeptOf, IsLabeled, IsOfArray, IsOfBoundariesInUse, StandsLabeled, is_sealed, unsealed}
+use Rattle.dg_label.specs.Labels.{AreFresh, AreNumbers, AreNumbersOf, AreSized, HasLength, HaveSameNumbers, IsKeptOf, IsLabeled, IsOfBoundariesInUse, StandsLabeled, is_sealed, unsealed}
 use Rattle.dg_label.specs.LineLaws.{line_on, seal_on}
 use Rattle.dg_label.specs.Seals.{HasGood, OpensSeal}
 use Rattle.dg_label.specs.declared.labels.KeptLabel.{KeptLabel}
@@ -191,15 +191,15 @@ module _ {R : Type 0} (rack : Ghosts R) where
       ap (λ (s : Bool). if s && not one then last else opened old new last) is ∙ sym (ap (λ (s : Bool). if s && not two then last else opened old new last) is)
 
   -- the label that is left is one that a step may leave
-  pub keeps_label : (a b : Store R) (before after : Option KeptLabel) (h : Relabels rack a b before after) (last : Option LastLabel) → IsKeptOf last before
+  pub keeps_label : (line : Shape) (a b : Store R) (before after : Option KeptLabel) (h : Relabels rack line a b before after) (last : Option LastLabel) → IsKeptOf last before
       → KeepsLabel (writes_of a) (writes_of b) (members_of a) (members_of b) last (label_after h.opens (members_of a) (members_of b) last)
-  keeps_label a b before after h None kept = record {
+  keeps_label line a b before after h None kept = record {
     opens = nat_lt (writes_of a) (writes_of b);
     rose = λ less low. lt-ltb (writes_of a) (writes_of b) less;
     stood = λ same low. le-ltb (writes_of a) (writes_of b) (omega (arith, same));
     is = refl;
   }
-  keeps_label a b before after h (Some last) kept = by_seal last.sealed refl
+  keeps_label line a b before after h (Some last) kept = by_seal last.sealed refl
     where
       by_seal : (s : Bool) → last.sealed ≡ s
           → KeepsLabel (writes_of a) (writes_of b) (members_of a) (members_of b) (Some last) (label_after h.opens (members_of a) (members_of b) (Some last))
@@ -247,33 +247,33 @@ module _ {R : Type 0} (rack : Ghosts R) where
       } in
       subst (λ (s : Bool). StandsLabeled rack line a kept (Some (if s && not false then last else opened (members_of a) (members_of a) last))) (sym is) open_now
 
-  pub relabels_none : (a : Store R) (kept : Option KeptLabel) → Relabels rack a a kept kept
-  relabels_none a kept = record {
-    labeled = λ line labeled. labeled;
+  pub relabels_none : (line : Shape) (a : Store R) (kept : Option KeptLabel) → Relabels rack line a a kept kept
+  relabels_none line a kept = record {
+    labeled = λ labeled. labeled;
     opens = false;
-    stands = λ line last labeled stands. at_last line last stands;
+    stands = λ last labeled stands. at_last last stands;
     wrote = λ sealed opens. absurd (false≢true opens);
     stood = λ sealed opens. refl;
   }
     where
-      at_last : (line : Shape) (last : Option LastLabel) → StandsLabeled rack line a kept last → StandsLabeled rack line a kept (label_after false (members_of a) (members_of a) last)
-      at_last line None stands = stands
-      at_last line (Some last) stands = still_label line a kept last last.sealed refl stands
+      at_last : (last : Option LastLabel) → StandsLabeled rack line a kept last → StandsLabeled rack line a kept (label_after false (members_of a) (members_of a) last)
+      at_last None stands = stands
+      at_last (Some last) stands = still_label line a kept last last.sealed refl stands
 
   -- ---- an opening
 
-  pub relabels_opened : (a m : Store R) (before after : Option KeptLabel) → HasGood a → OpensSeal rack a m before after → Relabels rack a m before after
-  relabels_opened a m before after good h = record {
-    labeled = h.labeled;
+  pub relabels_opened : (line : Shape) (a m : Store R) (before after : Option KeptLabel) → HasGood a → OpensSeal rack a m before after → Relabels rack line a m before after
+  relabels_opened line a m before after good h = record {
+    labeled = h.labeled line;
     opens = true;
-    stands = λ line last labeled stands. by_seal line labeled (is_sealed before) refl last stands;
+    stands = λ last labeled stands. by_seal labeled (is_sealed before) refl last stands;
     wrote = λ sealed opens. h.wrote sealed good;
     stood = λ sealed opens. absurd (false≢true (sym opens));
   }
     where
-      at_open : (line : Shape) (last : LastLabel) → is_sealed before ≡ false → StandsLabeled rack line a before (Some last)
+      at_open : (last : LastLabel) → is_sealed before ≡ false → StandsLabeled rack line a before (Some last)
           → StandsLabeled rack line a before (Some (next_label true (members_of a) (members_of a) last))
-      at_open line last is stands =
+      at_open last is stands =
           subst (λ (x : LastLabel). StandsLabeled rack line a before (Some x))
           (after_unsealed false true (members_of a) (members_of a) last (unsealed_last before is stands.kept))
           (still_label line a before last last.sealed refl stands)
@@ -282,15 +282,15 @@ module _ {R : Type 0} (rack : Ghosts R) where
           unsealed_last None is kept = absurd kept
           unsealed_last (Some k) is kept = kept.sealed ∙ is
 
-      by_seal : (line : Shape) → IsLabeled rack line a before → (s : Bool) → is_sealed before ≡ s → (last : Option LastLabel) → StandsLabeled rack line a before last
+      by_seal : IsLabeled rack line a before → (s : Bool) → is_sealed before ≡ s → (last : Option LastLabel) → StandsLabeled rack line a before last
           → StandsLabeled rack line m after (label_after true (members_of a) (members_of m) last)
-      by_seal line labeled true is last stands = h.stands line last labeled is stands
-      by_seal line labeled false is None stands =
+      by_seal labeled true is last stands = h.stands line last labeled is stands
+      by_seal labeled false is None stands =
           subst (λ (k : Option KeptLabel). StandsLabeled rack line m k None) (sym (h.after_is ∙ unsealed_same before is))
           (subst (λ (x : Store R). StandsLabeled rack line x before None) (sym (h.quiet is)) stands)
-      by_seal line labeled false is (Some last) stands =
+      by_seal labeled false is (Some last) stands =
           subst (λ (k : Option KeptLabel). StandsLabeled rack line m k (Some (next_label true (members_of a) (members_of m) last))) (sym (h.after_is ∙ unsealed_same before is))
-          (subst (λ (x : Store R). StandsLabeled rack line x before (Some (next_label true (members_of a) (members_of x) last))) (sym (h.quiet is)) (at_open line last is stands))
+          (subst (λ (x : Store R). StandsLabeled rack line x before (Some (next_label true (members_of a) (members_of x) last))) (sym (h.quiet is)) (at_open last is stands))
 
   -- ---- a call behind that
 
@@ -400,13 +400,13 @@ module _ {R : Type 0} (rack : Ghosts R) where
     fresh = stands.fresh;
   }
 
-  pub relabels_noted : (a m c : Store R) (before mid after : Option KeptLabel) (first : Relabels rack a m before mid) → HaveSameNumbers mid after
-      → ((line : Shape) → IsLabeled rack line m mid → IsLabeled rack line c after) → LeavesLabel a m c first.opens → (first.opens ≡ false → writes_of c ≡ writes_of m) → Relabels rack a c before after
-  relabels_noted a m c before mid after first same labeled h stood = record {
-    labeled = λ line was. labeled line (first.labeled line was);
+  pub relabels_noted : (line : Shape) (a m c : Store R) (before mid after : Option KeptLabel) (first : Relabels rack line a m before mid) → HaveSameNumbers mid after
+      → (IsLabeled rack line m mid → IsLabeled rack line c after) → LeavesLabel a m c first.opens → (first.opens ≡ false → writes_of c ≡ writes_of m) → Relabels rack line a c before after
+  relabels_noted line a m c before mid after first same labeled h stood = record {
+    labeled = λ was. labeled (first.labeled was);
     opens = first.opens;
-    stands = λ line last was stands.
-        noted_stands line c mid after (label_after first.opens (members_of a) (members_of c) last) same (at_last line last (first.stands line last was stands));
+    stands = λ last was stands.
+        noted_stands line c mid after (label_after first.opens (members_of a) (members_of c) last) same (at_last last (first.stands last was stands));
     wrote = λ sealed opens. rose_on (writes_of a) (writes_of m) (writes_of c) (first.wrote sealed opens) h.rise;
     stood = λ sealed opens. stood opens ∙ first.stood sealed opens;
   }
@@ -414,9 +414,9 @@ module _ {R : Type 0} (rack : Ghosts R) where
       rose_on : (x y z : ℕ) → Rose x y → y ≤ z → Rose x z
       rose_on x y z rose up = omega (arith, rose, up)
 
-      at_last : (line : Shape) (last : Option LastLabel) → StandsLabeled rack line m mid (label_after first.opens (members_of a) (members_of m) last)
+      at_last : (last : Option LastLabel) → StandsLabeled rack line m mid (label_after first.opens (members_of a) (members_of m) last)
           → StandsLabeled rack line c mid (label_after first.opens (members_of a) (members_of c) last)
-      at_last line None stands = record {
+      at_last None stands = record {
         kept = stands.kept;
         holds = tt;
         sizes = tt;
@@ -424,13 +424,13 @@ module _ {R : Type 0} (rack : Ghosts R) where
         filling = λ q fills. refl;
         fresh = λ q below here lacks. fresh_on a m c first.opens None h stands.fresh q below here (λ stood. refl);
       }
-      at_last line (Some last) stands = still_or_opened line a m c first.opens mid last (last.sealed && not first.opens) refl h stands
+      at_last (Some last) stands = still_or_opened line a m c first.opens mid last (last.sealed && not first.opens) refl h stands
 
   -- the same where no bit has changed
-  relabels_on : (a m c : Store R) (before after : Option KeptLabel) (first : Relabels rack a m before after)
-      → ((line : Shape) → IsLabeled rack line m after → IsLabeled rack line c after) → LeavesLabel a m c first.opens
-      → (first.opens ≡ false → writes_of c ≡ writes_of m) → Relabels rack a c before after
-  relabels_on a m c before after first labeled h stood = relabels_noted a m c before after after first (same_numbers after) labeled h stood
+  relabels_on : (line : Shape) (a m c : Store R) (before after : Option KeptLabel) (first : Relabels rack line a m before after)
+      → (IsLabeled rack line m after → IsLabeled rack line c after) → LeavesLabel a m c first.opens
+      → (first.opens ≡ false → writes_of c ≡ writes_of m) → Relabels rack line a c before after
+  relabels_on line a m c before after first labeled h stood = relabels_noted line a m c before after after first (same_numbers after) labeled h stood
 
   -- ---- calls on slots
 
@@ -456,10 +456,10 @@ module _ {R : Type 0} (rack : Ghosts R) where
         (labeled.filling q (h.fills q fills));
   }
 
-  pub relabels_then : (a m c : Store R) (before after : Option KeptLabel) (first : Relabels rack a m before after) → CallsOnSlots a m c
-      → (first.opens ≡ false → writes_of c ≡ writes_of m) → Relabels rack a c before after
-  relabels_then a m c before after first h stood =
-      relabels_on a m c before after first (λ line labeled. labeled_on line a m c after labeled h) (record {
+  pub relabels_then : (line : Shape) (a m c : Store R) (before after : Option KeptLabel) (first : Relabels rack line a m before after) → CallsOnSlots a m c
+      → (first.opens ≡ false → writes_of c ≡ writes_of m) → Relabels rack line a c before after
+  relabels_then line a m c before after first h stood =
+      relabels_on line a m c before after first (λ labeled. labeled_on line a m c after labeled h) (record {
         shape = h.shape;
         rise = h.rise;
         back = h.back;
@@ -520,14 +520,14 @@ module _ {R : Type 0} (rack : Ghosts R) where
   good_whole a some whole = good_of (members_of a) 0 (none_lost (shape_of a) (members_of a) 0 whole some)
 
   -- where the seal was opened or not
-  pub relabels_where : (writes : Bool) (a m : Store R) (before after : Option KeptLabel) → (writes ≡ true → HasGood a) → OpensWhere rack writes a m before after
-      → (h : Relabels rack a m before after) × (h.opens ≡ writes)
+  pub relabels_where : (line : Shape) (writes : Bool) (a m : Store R) (before after : Option KeptLabel) → (writes ≡ true → HasGood a) → OpensWhere rack writes a m before after
+      → (h : Relabels rack line a m before after) × (h.opens ≡ writes)
   unfolding relabels_none relabels_opened
-  relabels_where true a m before after good h = (relabels_opened a m before after (good refl) (h.opens refl), refl)
-  relabels_where false a m before after good h =
+  relabels_where line true a m before after good h = (relabels_opened line a m before after (good refl) (h.opens refl), refl)
+  relabels_where line false a m before after good h =
       let quiet = h.quiet refl in
-      subst (λ (k : Option KeptLabel). (r : Relabels rack a m before k) × (r.opens ≡ false)) (sym quiet.1)
-      (subst (λ (x : Store R). (r : Relabels rack a x before before) × (r.opens ≡ false)) (sym quiet.0) (relabels_none a before, refl))
+      subst (λ (k : Option KeptLabel). (r : Relabels rack line a m before k) × (r.opens ≡ false)) (sym quiet.1)
+      (subst (λ (x : Store R). (r : Relabels rack line a x before before) × (r.opens ≡ false)) (sym quiet.0) (relabels_none line a before, refl))
 
   -- ---- reads
 
@@ -608,12 +608,12 @@ module _ {R : Type 0} (rack : Ghosts R) where
       again (Some k) is = record { format = is.format; sequence = is.sequence; sealed = is.sealed; body = is.body }
 
   -- reads, and then other calls
-  pub relabels_behind : (a r c : Store R) (before after : Option KeptLabel) → ReadsOn rack a r → (second : Relabels rack r c before after)
-      → ((q : ℕ) → is_good (members_of a q) ≡ true → is_good (members_of c q) ≡ true → is_good (members_of r q) ≡ true) → Relabels rack a c before after
-  relabels_behind a r c before after reads second back = record {
-    labeled = λ line labeled. second.labeled line (labeled_on line a a r before labeled (slots_kept a a r reads.keeps));
+  pub relabels_behind : (line : Shape) (a r c : Store R) (before after : Option KeptLabel) → ReadsOn rack a r → (second : Relabels rack line r c before after)
+      → ((q : ℕ) → is_good (members_of a q) ≡ true → is_good (members_of c q) ≡ true → is_good (members_of r q) ≡ true) → Relabels rack line a c before after
+  relabels_behind line a r c before after reads second back = record {
+    labeled = λ labeled. second.labeled (labeled_on line a a r before labeled (slots_kept a a r reads.keeps));
     opens = second.opens;
-    stands = λ line last labeled stands. at_last line (labeled_on line a a r before labeled (slots_kept a a r reads.keeps)) last stands;
+    stands = λ last labeled stands. at_last (labeled_on line a a r before labeled (slots_kept a a r reads.keeps)) last stands;
     wrote = λ sealed opens. rose_from (writes_of a) (writes_of r) (writes_of c) reads.writes (second.wrote sealed opens);
     stood = λ sealed opens. second.stood sealed opens ∙ reads.writes;
   }
@@ -621,16 +621,16 @@ module _ {R : Type 0} (rack : Ghosts R) where
       rose_from : (x y z : ℕ) → y ≡ x → Rose y z → Rose x z
       rose_from x y z same rose = subst (λ (n : ℕ). Rose n z) same rose
 
-      at_last : (line : Shape) → IsLabeled rack line r before → (last : Option LastLabel) → StandsLabeled rack line a before last
+      at_last : IsLabeled rack line r before → (last : Option LastLabel) → StandsLabeled rack line a before last
           → StandsLabeled rack line c after (label_after second.opens (members_of a) (members_of c) last)
-      at_last line labeled None stands = second.stands line None labeled (stands_through line a r before None reads.keeps stands)
-      at_last line labeled (Some last) stands =
+      at_last labeled None stands = second.stands None labeled (stands_through line a r before None reads.keeps stands)
+      at_last labeled (Some last) stands =
           narrowed line a r c after last (last.sealed && not second.opens) back
           (good_falls (rack.counts (rack_of a)).faults (rack.counts (rack_of r)).faults (members_of a) (members_of r) reads.keeps.falls)
-          (second.stands line (Some last) labeled (stands_through line a r before (Some last) reads.keeps stands))
+          (second.stands (Some last) labeled (stands_through line a r before (Some last) reads.keeps stands))
 
-  pub relabels_read : (a c : Store R) (kept : Option KeptLabel) → ReadsOn rack a c → Relabels rack a c kept kept
-  relabels_read a c kept reads = relabels_then a a c kept kept (relabels_none a kept) (slots_kept a a c reads.keeps) (λ opens. reads.writes)
+  pub relabels_read : (line : Shape) (a c : Store R) (kept : Option KeptLabel) → ReadsOn rack a c → Relabels rack line a c kept kept
+  relabels_read line a c kept reads = relabels_then line a a c kept kept (relabels_none line a kept) (slots_kept a a c reads.keeps) (λ opens. reads.writes)
 
   -- ---- no call on the rack
 
@@ -640,12 +640,12 @@ module _ {R : Type 0} (rack : Ghosts R) where
       (beside_none (shape_of a).l ((shape_of a).k + 1) (rack.bytes (rack_of a)))
 
   -- what the members do may change
-  pub relabels_quiet : (a m c : Store R) (before after : Option KeptLabel) → Relabels rack a m before after → shape_of c ≡ shape_of m → rack_of c ≡ rack_of m
+  pub relabels_quiet : (line : Shape) (a m c : Store R) (before after : Option KeptLabel) → Relabels rack line a m before after → shape_of c ≡ shape_of m → rack_of c ≡ rack_of m
       → ((q : ℕ) → is_good (members_of a q) ≡ true → is_good (members_of c q) ≡ true → is_good (members_of m q) ≡ true) → ((q : ℕ) → members_of m q ≡ Out → members_of c q ≡ Out)
-      → ((q : ℕ) → is_filling (members_of c q) ≡ true → is_filling (members_of m q) ≡ true) → Relabels rack a c before after
-  relabels_quiet a m c before after first shape same back outs fills =
+      → ((q : ℕ) → is_filling (members_of c q) ≡ true → is_filling (members_of m q) ≡ true) → Relabels rack line a c before after
+  relabels_quiet line a m c before after first shape same back outs fills =
       let writes : writes_of c ≡ writes_of m = ap (λ (r : R). (rack.counts r).writes) same in
-      relabels_then a m c before after first
+      relabels_then line a m c before after first
       (record { shape = shape; rise = omega (arith, writes); back = back; outs = outs; fills = fills; beside = same_bytes m c same }) (λ opens. writes)
 
   -- the label stands as it stood
@@ -663,24 +663,24 @@ module _ {R : Type 0} (rack : Ghosts R) where
   }
 
   -- whether the seal was opened
-  pub none_opens : (a : Store R) (kept : Option KeptLabel) → (relabels_none a kept).opens ≡ false
+  pub none_opens : (line : Shape) (a : Store R) (kept : Option KeptLabel) → (relabels_none line a kept).opens ≡ false
   unfolding relabels_none
-  none_opens a kept = refl
+  none_opens line a kept = refl
 
-  pub then_opens : (a m c : Store R) (before after : Option KeptLabel) (first : Relabels rack a m before after) (h : CallsOnSlots a m c) (stood : first.opens ≡ false → writes_of c ≡ writes_of m)
-      → (relabels_then a m c before after first h stood).opens ≡ first.opens
+  pub then_opens : (line : Shape) (a m c : Store R) (before after : Option KeptLabel) (first : Relabels rack line a m before after) (h : CallsOnSlots a m c) (stood : first.opens ≡ false → writes_of c ≡ writes_of m)
+      → (relabels_then line a m c before after first h stood).opens ≡ first.opens
   unfolding relabels_then relabels_on relabels_noted
-  then_opens a m c before after first h stood = refl
+  then_opens line a m c before after first h stood = refl
 
-  pub quiet_opens : (a m c : Store R) (before after : Option KeptLabel) (first : Relabels rack a m before after) (shape : shape_of c ≡ shape_of m) (same : rack_of c ≡ rack_of m)
+  pub quiet_opens : (line : Shape) (a m c : Store R) (before after : Option KeptLabel) (first : Relabels rack line a m before after) (shape : shape_of c ≡ shape_of m) (same : rack_of c ≡ rack_of m)
       (back : (q : ℕ) → is_good (members_of a q) ≡ true → is_good (members_of c q) ≡ true → is_good (members_of m q) ≡ true) (outs : (q : ℕ) → members_of m q ≡ Out → members_of c q ≡ Out)
-      (fills : (q : ℕ) → is_filling (members_of c q) ≡ true → is_filling (members_of m q) ≡ true) → (relabels_quiet a m c before after first shape same back outs fills).opens ≡ first.opens
+      (fills : (q : ℕ) → is_filling (members_of c q) ≡ true → is_filling (members_of m q) ≡ true) → (relabels_quiet line a m c before after first shape same back outs fills).opens ≡ first.opens
   unfolding relabels_quiet relabels_then relabels_on relabels_noted
-  quiet_opens a m c before after first shape same back outs fills = refl
+  quiet_opens line a m c before after first shape same back outs fills = refl
 
-  pub opened_opens : (a m : Store R) (before after : Option KeptLabel) (good : HasGood a) (h : OpensSeal rack a m before after) → (relabels_opened a m before after good h).opens ≡ true
+  pub opened_opens : (line : Shape) (a m : Store R) (before after : Option KeptLabel) (good : HasGood a) (h : OpensSeal rack a m before after) → (relabels_opened line a m before after good h).opens ≡ true
   unfolding relabels_opened
-  opened_opens a m before after good h = refl
+  opened_opens line a m before after good h = refl
 
   -- calls on slots keep the label that fits
   pub labeled_kept : (line : Shape) (m c : Store R) (kept : Option KeptLabel) → IsLabeled rack line m kept → Keeps rack m c → IsLabeled rack line c kept

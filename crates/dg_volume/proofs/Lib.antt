@@ -27,6 +27,7 @@ mod RebuildMarks
 mod RebuildSteps
 mod RefillBehind
 mod RefillLaws
+mod RegroupSteps
 mod ReplaceSteps
 mod SaveLaws
 mod SealSteps

@@ -1,7 +1,6 @@
 -- A volume makes a step by moves of its blocks: what is left of it, and each answer of `tend` and of `settle`.
 use Rattle.std.proofs.Common.{◌≡◌, ◌≢◌, ◌⊎◌, ◌∙◌, ◌≤◌, ℕ, Bool, false, List, length, refl, sym, ap, subst, inl, inr}
 use Rattle.std.specs.Prelude.{Option, Some, None, Err, IfSome}
-use Rattle.dg_label.specs.Labels.{StandsLabeled}
 use Rattle.dg_label.specs.declared.labels.KeptLabel.{KeptLabel}
 use Rattle.dg_infer.specs.Meanings.{KeptInference}
 use Rattle.dg_infer.specs.Meanings as inferences
@@ -35,13 +34,14 @@ use Rattle.dg_store.specs.declared.store.Store.{Store}
 use Rattle.dg_volume.proofs.ArrayLaws.{told_by, told_moved}
 use Rattle.dg_volume.proofs.LabelLaws.{good_falls, relabels_behind}
 use Rattle.dg_volume.proofs.UseLaws.{fits_same, least_here, least_on}
-use Rattle.dg_volume.proofs.VolumeLaws.{HasRead, IsBeside, Labels, label_by, on_label, read_state, reads_in, reads_stay, same_in, steps_from}
+use Rattle.dg_volume.proofs.VolumeLaws.{HasRead, IsBeside, Labels, label_by, labeled_by, line_same, on_label, read_state, reads_in, reads_stay, same_in, steps_from, under_by}
 use Rattle.dg_volume.specs.Origins.{WasHeld}
 use Rattle.dg_volume.specs.Numbers.{unsettled_by}
 use Rattle.dg_volume.specs.Planned.{AnswersCheck, AreKnown, AreWanted, FindsOn, HasMovedArray, HasNoPlan, HasPlan, HasReadArray}
 use Rattle.dg_volume.specs.Seals.{Relabels}
 use Rattle.dg_volume.specs.Settles.{unsettled_reply}
-use Rattle.dg_volume.specs.Volumes.{FitsArray, IsWell, Known, Leaves, StandsFor, StandsIn, StepsTo, Tells, live_of, marks_by, marks_of, members_of, rack_of, reduced_of, shape_of, state_of, table_of}
+use Rattle.dg_volume.specs.Volumes.{FitsArray, HasLabel, IsWell, Known, Leaves, StandsFor, StandsIn, StandsUnder, StepsTo, Tells, line_of, live_of, marks_by, marks_of, members_of, rack_of, reduced_of, shape_of, state_of, table_of}
+use Rattle.dg_volume.specs.declared.in_use.InUse.{InUse}
 use Rattle.dg_volume.specs.declared.phases.InPhase as phases
 use Rattle.dg_volume.specs.declared.settles.Unsettled.{Unsettled}
 use Rattle.dg_volume.specs.declared.settles.Unsettled.TheVariants.{Lost, Malformed, NoSpace}
@@ -71,7 +71,7 @@ module _ {S R : Type 0} (phase : phases.Ghosts S) (rack : Ghosts R) where
     pub few_homes : length b.homes ≤ (shape_of b).n
 
   line_moved : (a b : Volume S R) → HasMoved a b → line_of b ≡ line_of a
-  line_moved a b h = line_same a b (ap (λ (u : InUse). u.boundaries) h.in_use) h.array.stays.shape
+  line_moved a b h = line_same a b (ap (λ (u : InUse). u.long) h.in_use) h.array.stays.shape
 
   marks_moved : (a b : Volume S R) → HasMoved a b → marks_of phase b ≡ marks_of phase a
   marks_moved a b h = λ i. marks_by (phase.kept (h.phase_is i)) ((h.pending i).items)
@@ -203,10 +203,10 @@ module _ {S R : Type 0} (phase : phases.Ghosts S) (rack : Ghosts R) where
   written_run a mid last read written = subst (λ (t : Table). SameWritten t (stores.table_of last)) read.reads.table written
 
   -- the label, where reads were followed by moves
-  pub labels_run : (a : Volume S R) (mid last : Store R) (label : Option KeptLabel) → HasReadArray rack a.store mid → HasMovedArray rack mid last → Relabels rack mid last a.label label
-      → Relabels rack a.store last a.label label
+  pub labels_run : (a : Volume S R) (mid last : Store R) (label : Option KeptLabel) → HasReadArray rack a.store mid → HasMovedArray rack mid last → Relabels rack (line_of a) mid last a.label label
+      → Relabels rack (line_of a) a.store last a.label label
   labels_run a mid last label read moved second =
-      relabels_behind rack a.store mid last a.label label read.reads second (λ q was good.
+      relabels_behind rack (line_of a) a.store mid last a.label label read.reads second (λ q was good.
       good_falls rack (rack.counts (stores.rack_of mid)).faults (rack.counts (stores.rack_of last)).faults (stores.members_of mid) (stores.members_of last) moved.falls q good)
 
   -- ---- what is inferred

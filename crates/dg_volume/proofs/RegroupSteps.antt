@@ -1,6 +1,6 @@
 -- A volume makes a step where it goes on without its lost boundaries.
-use Rattle.std.proofs.Common.{◌≡◌, ◌∙◌, ◌<◌, ◌≤◌, ◌+◌, ◌*◌, ◌/◌, ◌&&◌, ℕ, Bool, true, false, cond, filter, not, List, [], ◌∷◌, length, map, inl, inr, refl, sym, ap, subst, arith}
-use Rattle.std.specs.Prelude.{All, IfSome, None, Option, Some}
+use Rattle.std.proofs.Common.{◌≡◌, ◌∙◌, ◌≤◌, ◌+◌, ◌*◌, ◌&&◌, ℕ, Bool, true, false, cond, filter, not, List, [], ◌∷◌, length, map, inl, inr, refl, sym, ap, subst, arith}
+use Rattle.std.specs.Prelude.{IfSome, None, Option, Some}
 use Rattle.std.specs.List.{range_with_len}
 use Rattle.std.specs.Option.{option_map}
 use Rattle.std.proofs.lemmas.Bool.{and_from, false≢true}
@@ -14,26 +14,25 @@ use Rattle.dg_label.specs.Seals.{HasGood, HasNoGood, OpensSeal}
 use Rattle.dg_label.specs.declared.labels.KeptLabel.{KeptLabel}
 use Rattle.dg_model.proofs.MemberLaws.{good_was}
 use Rattle.dg_model.specs.Changes.{Goes, phase_after}
-use Rattle.dg_model.specs.Homes.{Ascend}
-use Rattle.dg_model.specs.Lives.{boundary_at, left_of}
+use Rattle.dg_model.specs.Lives.{boundary_at}
 use Rattle.dg_model.specs.Marks.{AreNext, is_marked}
 use Rattle.dg_model.specs.Members.{is_good, is_lost}
 use Rattle.dg_model.specs.Openings.{FitsReduced, Reduced}
-use Rattle.dg_model.specs.Regroups.{Regroups, homes_left, label_left, shape_left, without_lost}
+use Rattle.dg_model.specs.Regroups.{Regroups, homes_left, label_left, shape_left, table_left, without_lost}
 use Rattle.dg_model.specs.Saves.{AreHomes}
 use Rattle.dg_model.specs.Seals.{IsUnsealed, LastLabel, label_after}
-use Rattle.dg_model.specs.Sites.{is_gone}
-use Rattle.dg_model.specs.States.{Counts, State, has_lost, is_broken}
+use Rattle.dg_model.specs.States.{State, has_lost, is_broken}
 use Rattle.dg_model.specs.Steps.{Step}
-use Rattle.dg_model.specs.Tables.{Table}
+use Rattle.dg_model.specs.Tables.{IsTable, Table}
 use Rattle.dg_model.specs.declared.events.Event.TheVariants.{Regroup}
 use Rattle.dg_model.specs.declared.homes.Home.{Home}
 use Rattle.dg_model.specs.declared.members.MemberState.{MemberState}
-use Rattle.dg_model.specs.declared.phases.Phase.{Phase}
 use Rattle.dg_model.specs.declared.phases.Phase.TheVariants.{Loose as LoosePhase, Settled as SettledPhase, Worn as WornPhase}
 use Rattle.dg_model.specs.declared.replies.Reply.TheVariants.{Regrouped, TooFew, Whole}
 use Rattle.dg_model.specs.declared.shapes.Shape.{Shape}
 use Rattle.dg_promise.proofs.RegroupSteps.{homes_ascend}
+use Rattle.dg_regroup.specs.Cuts.{IsCutOver, IsTooFew}
+use Rattle.dg_regroup.specs.declared.cut_overs.CutOver.{CutOver}
 use Rattle.dg_store.specs.Reduced.{blocks_left, left_in}
 use Rattle.dg_store.specs.Stores.{TellsAll}
 use Rattle.dg_store.specs.Stores as stores
@@ -43,16 +42,15 @@ use Rattle.dg_volume.proofs.FaultLaws.{array_outs, array_tells, keeps_outs, keep
 use Rattle.dg_volume.proofs.LabelLaws.{keeps_label, labeled_kept, relabels_opened, relabels_read}
 use Rattle.dg_volume.proofs.LeftLaws.{fits_left, homes_few, homes_fit}
 use Rattle.dg_volume.proofs.MoveSteps.{loose_not_settled, loose_not_worn}
-use Rattle.dg_volume.proofs.VolumeLaws.{IsBeside, Keeps, Labels, kept_state, labeled_by, leaves, leaves_none, line_kept, line_same, lost_on, on_label, read_state, reads_in, reads_stay, same_in, shape_kept, stays, steps_from, still_in, told_before, under_by}
+use Rattle.dg_volume.proofs.VolumeLaws.{IsBeside, Keeps, Labels, kept_state, leaves, leaves_none, line_kept, lost_on, on_label, read_state, reads_in, reads_stay, same_in, shape_kept, stays, steps_from, still_in, told_before, under_by}
 use Rattle.dg_volume.proofs.VolumeSteps.{read_none}
 use Rattle.dg_volume.specs.Left.{marked_too}
-use Rattle.dg_volume.specs.Opens.{IsRestored}
-use Rattle.dg_volume.specs.Origins.{Origin, WasHeld}
+use Rattle.dg_volume.specs.Origins.{WasHeld}
 use Rattle.dg_volume.specs.Phases.{kept_in, phase_in}
 use Rattle.dg_volume.specs.Planned.{HasReadArray}
 use Rattle.dg_volume.specs.Regroups.{AreRemains, GoesOn, HasTooFew, IsPhaseLeft, IsRegrouped, IsTakenOut, KeepsLeft, TakesOut, WasTold, gone_count, gone_of, lost_count}
 use Rattle.dg_volume.specs.Settles.{GoesBy}
-use Rattle.dg_volume.specs.Volumes.{FitsArray, HasLabel, IsWell, Known, Leaves, StandsFor, StandsIn, StandsUnder, StepsTo, Tells, any_phase, cut_of, given_of, line_of, live_of, marks_by, marks_of, members_of, rack_of, reduced_of, shape_of, state_of, table_of}
+use Rattle.dg_volume.specs.Volumes.{FitsArray, HasLabel, IsWell, Known, Leaves, StandsFor, StandsIn, StandsUnder, any_phase, cut_of, line_of, live_of, marks_by, marks_of, members_of, rack_of, reduced_of, shape_of, state_of, table_of}
 use Rattle.dg_volume.specs.declared.in_use.InUse.{InUse}
 use Rattle.dg_volume.specs.declared.phases.AnyPhase.{AnyPhase}
 use Rattle.dg_volume.specs.declared.phases.AnyPhase.TheVariants.{Loose, Settled, Worn}
@@ -82,11 +80,30 @@ all_are_lost : (members : ℕ → MemberState) → ((q : ℕ) → is_good (membe
 all_are_lost members none s =
     and_from (not (is_good (members (2 * s)))) (not (is_good (members (2 * s + 1)))) (ap not (none (2 * s))) (ap not (none (2 * s + 1)))
 
--- ---- the phase
+-- ---- what remains
 
-phase_by : (lost : Bool) (p : Phase) → (lost ≡ true → p ≡ WornPhase) → (lost ≡ false → p ≡ LoosePhase) → p ≡ phase_after lost
-phase_by true p worn loose = worn refl
-phase_by false p worn loose = loose refl
+-- by its parts
+pub remains_made : {R : Type 0} (store : Store R) (homes copies : List Home) (live : List ℕ) (left : List ℕ) (shape : Shape) (table : Table) (over : CutOver) (remains : Remains) → shape ≡ stores.shape_of store
+    → table ≡ stores.table_of store → left ≡ left_in store → (IsTooFew left shape → ⊥) → IsCutOver left table homes copies over → remains.map ≡ over.map → remains.homes ≡ over.homes
+    → remains.live.items ≡ map (boundary_at live) (left_in store) → (remains.blank.l ≡ shape.l) × (remains.blank.n ≡ shape.n) → length remains.blank.pending ≡ shape.n
+    → AreRemains store homes copies live remains
+remains_made store homes copies live left shape table over remains shapes tables lefts enough cut map_is homes_is live_is size marks = record {
+  enough = λ few. enough (subst (λ (s : Shape). IsTooFew left s) (sym shapes) (subst (λ (xs : List ℕ). IsTooFew xs (stores.shape_of store)) (sym lefts) few));
+  map_is =
+      map_is ∙ cut.map_is ∙ ap (λ (xs : List ℕ). table_left xs table) lefts ∙ ap (λ (t : Table). table_left (left_in store) t) tables;
+  is_table = subst IsTable (sym map_is) cut.is_table;
+  homes_are = homes_is ∙ cut.homes_are ∙ ap (λ (xs : List ℕ). homes_left xs copies homes) lefts;
+  live_is = live_is;
+  bytes = size.0 ∙ ap (λ (s : Shape). s.l) shapes;
+  number = size.1 ∙ ap (λ (s : Shape). s.n) shapes;
+  marks = marks ∙ ap (λ (s : Shape). s.n) shapes;
+}
+
+-- where there is one, the others aren't too few
+pub not_few : {A : Type 0} (found : Option A) (one : A) (Few : Type 0) → found ≡ Some one → (Few → found ≡ None) → Few → ⊥
+not_few found one Few is none few = cc (sym is ∙ none few)
+
+-- ---- the phase
 
 module _ {R : Type 0} (rack : Ghosts R) where
   module _ (old new : Store R) (pending : List Bool) where
@@ -162,7 +179,7 @@ module _ {R : Type 0} (rack : Ghosts R) where
       }
 
   pub goes_none : (a : Volume AnyPhase R) → IsWell any_phase rack a → GoesOn any_phase rack a a
-  goes_none a well = record { well = well; line = refl; calls = omega arith; writes = omega arith }
+  goes_none a well = record { well = well; boundaries = refl; line = refl; calls = omega arith; writes = omega arith }
 
   -- ---- the opening of the seal
 
@@ -178,7 +195,7 @@ module _ {R : Type 0} (rack : Ghosts R) where
 
   module _ (a m : Volume AnyPhase R) (h : HasUnsealed a m) where
     abbrev labels_open : Labels rack a m
-    labels_open = relabels_opened rack a.store m.store a.label m.label h.good h.opening
+    labels_open = relabels_opened rack (line_of a) a.store m.store a.label m.label h.good h.opening
 
     keeps_open : Keeps any_phase rack a m
     keeps_open = let k = h.opening.array in record {
@@ -202,7 +219,7 @@ module _ {R : Type 0} (rack : Ghosts R) where
     open_leaves = leaves any_phase rack a m h.well keeps_open
 
     pub open_goes : GoesOn any_phase rack a m
-    open_goes = record { well = open_leaves.well; line = line_kept any_phase rack a m keeps_open; calls = open_leaves.rise.calls; writes = open_leaves.rise.writes }
+    open_goes = record { well = open_leaves.well; boundaries = ap (λ (u : InUse). u.boundaries) h.beside.in_use; line = line_kept any_phase rack a m keeps_open; calls = open_leaves.rise.calls; writes = open_leaves.rise.writes }
 
     pub open_lost : has_lost (shape_of m) (members_of m) ≡ true
     open_lost =
@@ -265,7 +282,7 @@ module _ {R : Type 0} (rack : Ghosts R) where
       abbrev keeps_mid : Keeps any_phase rack a m
       keeps_mid = keeps_open a m h.unsealed
 
-      -- ---- its numbers
+      -- ---- its numbers, and the length of its members
 
       shape_b : shape_of b ≡ shape_left left (shape_of m)
       shape_b = ap (λ (t : Table). t.shape) h.out.array.table
@@ -275,14 +292,14 @@ module _ {R : Type 0} (rack : Ghosts R) where
 
       line_f : line_of f ≡ line_of a
       line_f =
-          let bounds : f.in_use.boundaries ≡ m.in_use.boundaries = ap (λ (u : InUse). u.boundaries) h.in_use ∙ h.out.boundaries_are in
-          let first : line_of f ≡ line_of m = λ i. record (shape_f i) { b = bounds i } in
+          let long : f.in_use.long ≡ m.in_use.long = ap (λ (u : InUse). u.long) h.in_use ∙ h.out.long_is in
+          let first : line_of f ≡ line_of m = λ i. record (shape_f i) { b = long i } in
           first ∙ line_kept any_phase rack a m keeps_mid
 
       -- ---- its label
 
       labeled_mid : IsLabeled rack (line_of a) m.store m.label
-      labeled_mid = (labels_open a m h.unsealed).labeled (line_of a) h.unsealed.well.labeled
+      labeled_mid = (labels_open a m h.unsealed).labeled h.unsealed.well.labeled
 
       labeled_b : IsLabeled rack (line_of a) b.store b.label
       labeled_b = h.are_left (line_of a) m.store b.store m.label b.label h.out.array (now_unsealed a m h.unsealed) h.out.label_is labeled_mid
@@ -302,10 +319,10 @@ module _ {R : Type 0} (rack : Ghosts R) where
       stands_b : (last : Option LastLabel) → StandsUnder rack a last → StandsLabeled rack (line_of a) b.store b.label (left_label last)
       stands_b last stands =
           h.stand_left (line_of a) m.store b.store m.label b.label h.out.array (now_unsealed a m h.unsealed) h.out.label_is labeled_mid (open_lost a m h.unsealed) (mid_label last)
-          ((labels_open a m h.unsealed).stands (line_of a) last h.unsealed.well.labeled stands)
+          ((labels_open a m h.unsealed).stands last h.unsealed.well.labeled stands)
 
       abbrev read_opens : Bool
-      read_opens = (relabels_read rack b.store f.store b.label h.read.reads).opens
+      read_opens = (relabels_read rack (line_of a) b.store f.store b.label h.read.reads).opens
 
       abbrev last_label : Option LastLabel → Option LastLabel
       last_label last = label_after read_opens (members_of b) (members_of f) (left_label last)
@@ -314,7 +331,7 @@ module _ {R : Type 0} (rack : Ghosts R) where
       stands_f last stands =
           subst (λ (x : Shape). StandsLabeled rack x f.store f.label (last_label last)) (sym line_f)
           (subst (λ (k : Option KeptLabel). StandsLabeled rack (line_of a) f.store k (last_label last)) (sym h.label_is)
-          ((relabels_read rack b.store f.store b.label h.read.reads).stands (line_of a) (left_label last) labeled_b (stands_b last stands)))
+          ((relabels_read rack (line_of a) b.store f.store b.label h.read.reads).stands (left_label last) labeled_b (stands_b last stands)))
 
       -- ---- what it stands for
 
@@ -352,7 +369,7 @@ module _ {R : Type 0} (rack : Ghosts R) where
             passes = record {
               counts = reads.stays.rise;
               label =
-                  keeps_label rack b.store f.store b.label b.label (relabels_read rack b.store f.store b.label h.read.reads) (left_label rest.label)
+                  keeps_label rack (line_of a) b.store f.store b.label b.label (relabels_read rack (line_of a) b.store f.store b.label h.read.reads) (left_label rest.label)
                   (stands_b rest.label label).kept;
               paired = h.read.sound.paired;
               faults = record { fell = tells.fell; beyond = tells.beyond };
@@ -505,6 +522,7 @@ module _ {R : Type 0} (rack : Ghosts R) where
           let same = h.out.array.leaves in
           let reads = h.read.reads.keeps.stays.rise in record {
             well = left_well fits;
+            boundaries = ap (λ (u : InUse). u.boundaries) h.in_use ∙ h.out.boundaries_are ∙ ap (λ (u : InUse). u.boundaries) h.unsealed.beside.in_use;
             line = line_f;
             calls = omega (arith, opened.calls, same.calls, reads.calls);
             writes = omega (arith, opened.writes, same.writes, reads.writes);

@@ -1,7 +1,6 @@
 -- What calls that keep all of a volume but its array leave of it.
 use Rattle.std.proofs.Common.{◌≡◌, ◌∙◌, ◌<◌, ◌≤◌, ◌/◌, ℕ, Bool, true, List, length, refl, sym, ap, subst}
 use Rattle.std.specs.Prelude.{IfSome, Option}
-use Rattle.dg_infer.specs.Meanings.{KeptInference}
 use Rattle.dg_infer.specs.Meanings as inferences
 use Rattle.dg_io.specs.Told.{StillTold}
 use Rattle.dg_io.specs.declared.outside.Rack.{Ghosts}
@@ -49,26 +48,26 @@ on_label a b opens rest = record rest { label = label_after opens (members_of a)
 
 -- what calls left of the label of a volume
 abbrev pub Labels : {S T R : Type 0} → Ghosts R → Volume S R → Volume T R → Type 0
-Labels rack a b = Relabels rack a.store b.store a.label b.label
+Labels rack a b = Relabels rack (line_of a) a.store b.store a.label b.label
 
 -- the label that they left is one that a step leaves
 pub label_by : {S T R : Type 0} (rack : Ghosts R) (a : Volume S R) (b : Volume T R) (h : Labels rack a b) (last : Option LastLabel) → StandsUnder rack a last
     → KeepsLabel (rack.counts (rack_of a)).writes (rack.counts (rack_of b)).writes (members_of a) (members_of b) last (label_after h.opens (members_of a) (members_of b) last)
-label_by rack a b h last stands = keeps_label rack a.store b.store a.label b.label h last stands.kept
+label_by rack a b h last stands = keeps_label rack (line_of a) a.store b.store a.label b.label h last stands.kept
 
--- the numbers of the first line are the same
-pub line_same : {S T R : Type 0} (a : Volume S R) (b : Volume T R) → b.in_use.boundaries ≡ a.in_use.boundaries → shape_of b ≡ shape_of a → line_of b ≡ line_of a
+-- members are as long by the same numbers
+pub line_same : {S T R : Type 0} (a : Volume S R) (b : Volume T R) → b.in_use.long ≡ a.in_use.long → shape_of b ≡ shape_of a → line_of b ≡ line_of a
 line_same a b same shape i = record (shape i) { b = same i }
 
 -- the label that they left fits the array
 pub labeled_by : {S T R : Type 0} (rack : Ghosts R) (a : Volume S R) (b : Volume T R) → line_of b ≡ line_of a → Labels rack a b → HasLabel rack a → HasLabel rack b
-labeled_by rack a b line labels labeled = subst (λ (x : Shape). IsLabeled rack x b.store b.label) (sym line) (labels.labeled (line_of a) labeled)
+labeled_by rack a b line labels labeled = subst (λ (x : Shape). IsLabeled rack x b.store b.label) (sym line) (labels.labeled labeled)
 
 -- and stands on the members that keep it
 pub under_by : {S T R : Type 0} (rack : Ghosts R) (a : Volume S R) (b : Volume T R) → line_of b ≡ line_of a → (labels : Labels rack a b) → HasLabel rack a → (last : Option LastLabel)
     → StandsUnder rack a last → StandsUnder rack b (label_after labels.opens (members_of a) (members_of b) last)
 under_by rack a b line labels labeled last stands =
-    subst (λ (x : Shape). StandsLabeled rack x b.store b.label (label_after labels.opens (members_of a) (members_of b) last)) (sym line) (labels.stands (line_of a) last labeled stands)
+    subst (λ (x : Shape). StandsLabeled rack x b.store b.label (label_after labels.opens (members_of a) (members_of b) last)) (sym line) (labels.stands last labeled stands)
 
 module _ {S R : Type 0} (phase : phases.Ghosts S) (rack : Ghosts R) where
   -- all but the array, the label and the buffers is as it was
@@ -99,9 +98,9 @@ module _ {S R : Type 0} (phase : phases.Ghosts S) (rack : Ghosts R) where
   pub shape_kept : (a b : Volume S R) → Keeps a b → shape_of b ≡ shape_of a
   shape_kept a b keeps = ap (λ (t : Table). t.shape) keeps.table
 
-  -- so are the numbers of its first line
+  -- so are the numbers by which members are as long
   line_kept : (a b : Volume S R) → Keeps a b → line_of b ≡ line_of a
-  line_kept a b keeps = line_same a b (ap (λ (u : InUse). u.boundaries) keeps.beside.in_use) (shape_kept a b keeps)
+  line_kept a b keeps = line_same a b (ap (λ (u : InUse). u.long) keeps.beside.in_use) (shape_kept a b keeps)
 
   marks_kept : (a b : Volume S R) → IsBeside a b → marks_of phase b ≡ marks_of phase a
   marks_kept a b beside = λ i. marks_by (phase.kept (beside.phase_is i)) ((beside.pending i).items)
@@ -125,7 +124,7 @@ module _ {S R : Type 0} (phase : phases.Ghosts S) (rack : Ghosts R) where
         levels = keeps.levels ∙ well.levels ∙ sym (ap (λ (x : Shape). x.l) shape);
         marks = ap length (marks_kept a b keeps.beside) ∙ well.marks ∙ sym (ap (λ (x : Shape). x.n) shape);
         inferred = subst (λ (p : S). IfSome (phase.kept p) (FitsArray (shape_of b))) (sym keeps.beside.phase_is) fits;
-        labeled = labeled_by rack a b (line_same a b (ap (λ (u : InUse). u.boundaries) keeps.beside.in_use) shape) keeps.labels keeps.labeled;
+        labeled = labeled_by rack a b (line_same a b (ap (λ (u : InUse). u.long) keeps.beside.in_use) shape) keeps.labels keeps.labeled;
         in_use = fits_table a b keeps.beside.in_use keeps.table well.in_use;
         homes_are = subst (λ (x : List Home). AreHomes (shape_of b) x) (sym keeps.beside.homes) homes;
         few_homes =
@@ -270,8 +269,8 @@ module _ {S R : Type 0} (phase : phases.Ghosts S) (rack : Ghosts R) where
     back = λ q. good_was (rack.counts (rack_of a)).faults (rack.counts (rack_of b)).faults (members_of a) (members_of b) q h.reads.keeps.falls;
     stands = h.stands;
     labels =
-        subst (λ (k : Option KeptLabel). Relabels rack a.store b.store a.label k) (sym h.label_is)
-        (relabels_read rack a.store b.store a.label h.reads);
+        subst (λ (k : Option KeptLabel). Relabels rack (line_of a) a.store b.store a.label k) (sym h.label_is)
+        (relabels_read rack (line_of a) a.store b.store a.label h.reads);
     faults = keeps_tells rack a.store b.store h.reads.keeps;
   }
 

@@ -9,7 +9,7 @@ use Rattle.dg_infer.specs.Meanings.{KeptInference}
 use Rattle.dg_infer.specs.Meanings as inferences
 use Rattle.dg_io.specs.Told.{StillTold}
 use Rattle.dg_io.specs.declared.outside.Rack.{Ghosts}
-use Rattle.dg_label.specs.Labels.{IsKeptOf, IsLabeled, StandsLabeled}
+use Rattle.dg_label.specs.Labels.{IsKeptOf}
 use Rattle.dg_label.specs.declared.labels.KeptLabel.{KeptLabel}
 use Rattle.dg_model.proofs.MemberLaws.{NoneRecovers, falls_both, good_was, has_lost_at, none_back}
 use Rattle.dg_model.specs.Blocks.{padded}
@@ -46,11 +46,11 @@ use Rattle.dg_volume.proofs.FaultLaws.{falls_out, keeps_outs, keeps_tells, outs_
 use Rattle.dg_volume.proofs.LabelLaws.{relabels_none, relabels_then, slots_kept}
 use Rattle.dg_volume.proofs.MoveSteps.{loose_not_settled, loose_not_worn}
 use Rattle.dg_volume.proofs.PlaceLaws.{fits_written}
-use Rattle.dg_volume.proofs.VolumeLaws.{IsBeside, Keeps, Labels, kept_state, label_by, leaves, lost_on, on_label, same_in, stays, steps_from, still_in}
+use Rattle.dg_volume.proofs.VolumeLaws.{IsBeside, Keeps, Labels, kept_state, label_by, labeled_by, leaves, line_same, lost_on, on_label, same_in, stays, steps_from, still_in, under_by}
 use Rattle.dg_volume.specs.Origins.{WasHeld}
 use Rattle.dg_volume.specs.Faults.{OutsStay, TellsFaults}
 use Rattle.dg_volume.specs.Seals.{FallsOn, HasStoredBlock, Relabels, opening_calls}
-use Rattle.dg_volume.specs.Volumes.{FitsArray, IsWell, Known, Leaves, StandsFor, StandsIn, Tells, cut_of, given_of, marks_by, marks_of, members_of, rack_of, reduced_of, shape_of, state_of, table_of}
+use Rattle.dg_volume.specs.Volumes.{FitsArray, HasLabel, IsWell, Known, Leaves, StandsFor, StandsIn, StandsUnder, Tells, cut_of, given_of, line_of, marks_by, marks_of, members_of, rack_of, reduced_of, shape_of, state_of, table_of}
 use Rattle.dg_volume.specs.Writes.{IsFollowed, RereadsFew, WritesTo}
 use Rattle.dg_volume.specs.declared.phases.InPhase as phases
 use Rattle.dg_volume.specs.declared.volumes.Volume.{Volume}
@@ -120,8 +120,9 @@ refused_under last kept is now was members own few = let same = opening_is last 
 -- ---- the label
 
 -- a write was followed by reads
-pub labels_followed : {R : Type 0} (rack : Ghosts R) (a m c : Store R) (before after : Option KeptLabel) → Relabels rack a m before after → ReadsOn rack m c → Relabels rack a c before after
-labels_followed rack a m c before after first reads = relabels_then rack a m c before after first (slots_kept rack a m c reads.keeps) (λ closed. reads.writes)
+pub labels_followed : {R : Type 0} (rack : Ghosts R) (line : Shape) (a m c : Store R) (before after : Option KeptLabel) → Relabels rack line a m before after → ReadsOn rack m c
+    → Relabels rack line a c before after
+labels_followed rack line a m c before after first reads = relabels_then rack line a m c before after first (slots_kept rack a m c reads.keeps) (λ closed. reads.writes)
 
 -- ---- phases
 
@@ -161,6 +162,7 @@ reread_few rack Known J l n old new V W b blocks l_is n_is along reads were coun
 -- block b is cut no more, and the same boundaries are in use
 pub record Uncuts {S T R : Type 0} (a : Volume S R) (b : ℕ) (c : Volume T R) : Type 0 where
   pub boundaries : c.in_use.boundaries ≡ a.in_use.boundaries
+  pub long : c.in_use.long ≡ a.in_use.long
   pub live : c.in_use.live ≡ a.in_use.live
   pub cut : cut_of c ≡ slice_set (cut_of a) b false
 
@@ -250,6 +252,7 @@ module _ {S T R : Type 0} (from : phases.Ghosts S) (to : phases.Ghosts T) (rack 
     pub homes : c.homes ≡ a.homes
     pub copies : c.copies ≡ []
     pub boundaries : c.in_use.boundaries ≡ a.in_use.boundaries
+    pub long : c.in_use.long ≡ a.in_use.long
     pub live : c.in_use.live ≡ a.in_use.live
     pub cut : cut_of c ≡ slice_set (cut_of a) b false
     pub phase_is : to.phase c.phase ≡ phase_after (has_lost (shape_of c) (members_of c))
@@ -261,7 +264,7 @@ module _ {S T R : Type 0} (from : phases.Ghosts S) (to : phases.Ghosts T) (rack 
     pub labels : Labels rack a c
 
   line_written : (a : Volume S R) (b : ℕ) (block : List ℕ) (m : Store R) (c : Volume T R) → HasWritten a b block m c → line_of c ≡ line_of a
-  line_written a b block m c h = line_same a c h.boundaries (h.array.reads.keeps.shape ∙ h.array.first.stays.shape)
+  line_written a b block m c h = line_same a c h.long (h.array.reads.keeps.shape ∙ h.array.first.stays.shape)
 
   falls_on : (a : Volume S R) (b : ℕ) (block : List ℕ) (m new : Store R) → HasStored a b block m new
       → MembersFall (rack.counts (rack_of a)).faults (rack.counts (stores.rack_of new)).faults (members_of a) (stores.members_of new)
@@ -306,7 +309,7 @@ module _ {S T R : Type 0} (from : phases.Ghosts S) (to : phases.Ghosts T) (rack 
   written_in_use : (a : Volume S R) (b : ℕ) (block : List ℕ) (m : Store R) (c : Volume T R) → IsWell from rack a → HasWritten a b block m c → FitsReduced (table_of c) (reduced_of c)
   written_in_use a b block m c well h =
       uncut_in_use a c b (shape_on a b block m c.store h.array) h.array.within
-      (subst (λ (t : Table). IsSited (table_of a) b t) (sym h.array.reads.table) h.array.stored.sited) (record { boundaries = h.boundaries; live = h.live; cut = h.cut }) well.in_use
+      (subst (λ (t : Table). IsSited (table_of a) b t) (sym h.array.reads.table) h.array.stored.sited) (record { boundaries = h.boundaries; long = h.long; live = h.live; cut = h.cut }) well.in_use
 
   pub written_leaves : (a : Volume S R) (b : ℕ) (block : List ℕ) (m : Store R) (c : Volume T R) → IsWell from rack a → HasWritten a b block m c → Leaves from to rack a c
   written_leaves a b block m c well h =
@@ -452,6 +455,7 @@ module _ {S T R : Type 0} (from : phases.Ghosts S) (to : phases.Ghosts T) (rack 
         homes = homes;
         copies = copies;
         boundaries = uncuts.boundaries;
+    long = uncuts.long;
         live = uncuts.live;
         cut = uncuts.cut;
         labeled = well.labeled;
@@ -493,6 +497,7 @@ module _ {S T R : Type 0} (from : phases.Ghosts S) (to : phases.Ghosts T) (rack 
   written_broken a b block m kept c well array levels homes copies uncuts had has worn marks lost labels = record {
     array = array;
     boundaries = uncuts.boundaries;
+    long = uncuts.long;
     live = uncuts.live;
     cut = uncuts.cut;
     labeled = well.labeled;
@@ -517,7 +522,7 @@ module _ {S T R : Type 0} (from : phases.Ghosts S) (to : phases.Ghosts T) (rack 
 
 module _ {S T R : Type 0} (from : phases.Ghosts S) (to : phases.Ghosts T) (rack : Ghosts R) where
   -- a loose volume is left
-  pub loosened_leaves : (a : Volume S R) (m : Store R) (kept now : KeptInference) (c : Volume T R) → IsWell from rack a → FitsReduced (table_of c) (reduced_of c) → c.in_use.boundaries ≡ a.in_use.boundaries → FallsOn rack a.store m → IsSound rack c.store → ReadsOn rack m c.store
+  pub loosened_leaves : (a : Volume S R) (m : Store R) (kept now : KeptInference) (c : Volume T R) → IsWell from rack a → FitsReduced (table_of c) (reduced_of c) → c.in_use.long ≡ a.in_use.long → FallsOn rack a.store m → IsSound rack c.store → ReadsOn rack m c.store
       → c.levels.fragment ≡ a.levels.fragment → c.homes ≡ a.homes → c.copies ≡ [] → from.kept a.phase ≡ Some kept → to.kept c.phase ≡ Some now → to.phase c.phase ≡ LoosePhase
       → (now.l ≡ kept.l) × (now.n ≡ kept.n) → length now.pending ≡ length kept.pending → Labels rack a c → Leaves from to rack a c
   loosened_leaves a m kept now c well in_use same first sound reads levels homes copies had has loose size room labels =
@@ -561,7 +566,7 @@ module _ {S R : Type 0} (phase : phases.Ghosts S) (rack : Ghosts R) where
     same_rack = refl;
     back = λ q good. good;
     stands = λ V stands. stands;
-    labels = relabels_none rack a.store a.label;
+    labels = relabels_none rack (line_of a) a.store a.label;
     faults = tells_same rack a.store a.store refl;
   }
 

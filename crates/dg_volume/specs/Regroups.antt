@@ -37,9 +37,10 @@ use Rattle.dg_volume.specs.declared.volumes.Volume.{Volume}
 
 -- ---- what any call leaves, also one that takes boundaries out of use
 
--- A volume of the same first line, with which all is well. No count of all calls fell.
+-- A volume of the same first line, whose members are as long, with which all is well. No count of all calls fell.
 pub record GoesOn {S T R : Type 0} (to : phases.Ghosts T) (rack : Ghosts R) (old : Volume S R) (new : Volume T R) : Type 0 where
   pub well : IsWell to rack new
+  pub boundaries : new.in_use.boundaries ≡ old.in_use.boundaries
   pub line : line_of new ≡ line_of old
   pub calls : (rack.counts (rack_of old)).calls ≤ (rack.counts (rack_of new)).calls
   pub writes : (rack.counts (rack_of old)).writes ≤ (rack.counts (rack_of new)).writes
@@ -76,6 +77,7 @@ pub record IsTakenOut {R : Type 0} (rack : Ghosts R) (boundaries : R → ℕ) (d
   pub kept_is : kept_in new.phase ≡ Some remains.blank
   pub pending_is : new.pending.items ≡ unmarked (gone_of old) (marks_of any_phase old)
   pub boundaries_are : new.in_use.boundaries ≡ old.in_use.boundaries
+  pub long_is : new.in_use.long ≡ old.in_use.long
   pub live_is : live_of new ≡ map (boundary_at (live_of old)) (left_in old.store)
   pub cut_is : cut_of new ≡ marked_too (gone_of old) (cut_of old)
   pub homes_are : new.homes ≡ homes_left (left_in old.store) old.copies old.homes

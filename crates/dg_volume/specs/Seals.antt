@@ -19,12 +19,12 @@ use Rattle.dg_store.specs.Stores.{IsSound, SetsBlock, members_of, rack_of, table
 use Rattle.dg_store.specs.declared.store.Store.{Store}
 use Rattle.dg_volume.specs.Faults.{OutsStay, TellsFaults}
 
--- What calls left of the label, whatever the numbers with which the array was made: where the array stood with a label it stands with that of the
+-- What calls left of the label, where members are as long by the numbers of the line: where the array stood with a label it stands with that of the
 -- next state, opened or not. A sealed one was opened where a call that writes was made, and else none was made.
-pub record Relabels {R : Type 0} (rack : Ghosts R) (old new : Store R) (before after : Option KeptLabel) : Type 0 where
-  pub labeled : (line : Shape) → IsLabeled rack line old before → IsLabeled rack line new after
+pub record Relabels {R : Type 0} (rack : Ghosts R) (line : Shape) (old new : Store R) (before after : Option KeptLabel) : Type 0 where
+  pub labeled : IsLabeled rack line old before → IsLabeled rack line new after
   pub opens : Bool
-  pub stands : (line : Shape) (last : Option LastLabel) → IsLabeled rack line old before → StandsLabeled rack line old before last
+  pub stands : (last : Option LastLabel) → IsLabeled rack line old before → StandsLabeled rack line old before last
       → StandsLabeled rack line new after (label_after opens (members_of old) (members_of new) last)
   pub wrote : is_sealed before ≡ true → opens ≡ true → HasWritten rack old new
   pub stood : is_sealed before ≡ true → opens ≡ false → (rack.counts (rack_of new)).writes ≡ (rack.counts (rack_of old)).writes

@@ -53,9 +53,9 @@ members_of volume = stores.members_of volume.store
 abbrev pub rack_of : {S R : Type 0} → Volume S R → R
 rack_of volume = stores.rack_of volume.store
 
--- the numbers of its first line
+-- the numbers by which members are as long: its own, with as many boundaries as were in use when the array was made or opened
 abbrev pub line_of : {S R : Type 0} → Volume S R → Shape
-line_of volume = record (shape_of volume) { b = volume.in_use.boundaries }
+line_of volume = record (shape_of volume) { b = volume.in_use.long }
 
 -- what it keeps of the last label fits its array
 abbrev pub HasLabel : {S R : Type 0} → Ghosts R → Volume S R → Type 0

@@ -195,7 +195,7 @@ fn open_refill<R: Rack>(
     requires sound { IsSound R.Rack store.old }
     requires seal { HasOwnSeal (stores.shape_of store.old) label.old }
     requires boundary { boundary < (stores.shape_of store.old).b }
-    ensures { OpensRefill R.Rack boundary limit store.old store.new label.old label.new result }
+    ensures { (line : Shape) → OpensRefill R.Rack line boundary limit store.old store.new label.old label.new result }
 {
     if !is_filling(store, boundary) {
         return None;
@@ -223,7 +223,8 @@ impl<S: InPhase, R: Rack> Volume<S, R> {
         };
         let opens = can_replace(&self.store, place, side as u8);
         open_where(&mut self.store, &mut self.label, opens);
-        let size = member_length(self.store.shape());
+        let line = self.in_use.line(self.store.shape());
+        let size = member_length(&line);
         match self.store.replace(place, side as u8, size) {
             MemberAnswer::Replaced => {
                 note_long(&mut self.label, 2 * place + side as u8);

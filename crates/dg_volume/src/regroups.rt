@@ -141,7 +141,8 @@ impl<R: Reduces> Volume<AnyPhase, R> {
         self.store.reduce(map);
         self.in_use.live = live;
         self.homes = homes;
-        self.copies = Homes::new(Vec::new(alloc));
+        let copies = Homes::new(Vec::new(alloc));
+        self.copies = copies;
         RegroupAnswer::Regrouped { boundaries, blocks }
     }
 

@@ -109,7 +109,8 @@ impl<S: InPhase, R: Rack> Volume<S, R> {
         ensures given { given_of self.new ≡ given_of self.old }
     {
         let body = self.body(alloc, hot)?;
-        let answer = save(&mut self.store, &mut self.label, &body)?;
+        let line = self.in_use.line(self.store.shape());
+        let answer = save(&mut self.store, &line, &mut self.label, &body)?;
         Ok(self.in_use.saved(answer))
     }
 

@@ -9,6 +9,7 @@ ghost use Rattle.dg_model.specs.Moves.{AreTargets, missing_in};
 ghost use Rattle.dg_model.specs.Placed.{IsPlaced};
 ghost use Rattle.dg_model.specs.States.{has_lost};
 ghost use Rattle.dg_model.specs.Tables.{sites_in};
+ghost use Rattle.dg_model.specs.declared.shapes.Shape.{Shape};
 ghost use Rattle.dg_model.specs.declared.wants.Want.{Want};
 ghost use Rattle.dg_move.specs.Answers.{NamesLoss};
 ghost use Rattle.dg_plan.specs.Targets.{blocks_in, wants_of};
@@ -58,7 +59,7 @@ pub fn write_opened<R: Rack>(
     ensures err { OnErr result (IsUnchanged R.Rack store.old store.new) }
     ensures most { CallsAtMost R.Rack store.old store.new
         (opening_calls label.old (2 * (shape_of store.old).b) + 2 * max 1 (length (sites_in (table_of store.old) block))) }
-    ensures label { Relabels R.Rack store.old store.new label.old label.new }
+    ensures label { (line : Shape) → Relabels R.Rack line store.old store.new label.old label.new }
 {
     open_where(store, label, true);
     store.write(block, buf)
@@ -78,7 +79,7 @@ pub fn move_within<R: Rack>(
     requires live { has_lost (shape_of store.old) (members_of store.old) ≡ false }
     ensures array { HasMovedArray R.Rack store.old store.new }
     ensures written { SameWritten (table_of store.old) (table_of store.new) }
-    ensures label { Relabels R.Rack store.old store.new label.old label.new }
+    ensures label { (line : Shape) → Relabels R.Rack line store.old store.new label.old label.new }
     ensures moves { IfOk result (λ answer. EndsMoves (wants_of targets.now) limit (table_of store.old) (table_of store.new) (members_of store.new) answer) }
     ensures still { min limit (missing_in (wants_of targets.now) (table_of store.old)) ≡ 0 → rack_of store.new ≡ rack_of store.old }
     ensures lost { IfOk result (λ answer. NamesLoss (shape_of store.new) (members_of store.new) answer) }
@@ -109,7 +110,7 @@ pub fn spread_recent<R: Rack>(
         × IsPlaced wants (table_of store.old) homes.now copies.old }
     ensures array { HasMovedArray R.Rack store.old store.new }
     ensures written { SameWritten (table_of store.old) (table_of store.new) }
-    ensures label { Relabels R.Rack store.old store.new label.old label.new }
+    ensures label { (line : Shape) → Relabels R.Rack line store.old store.new label.old label.new }
     ensures placed { (wants : List (Option Want)) → AreWanted (table_of store.old) inference.now wants
         → IsPlaced wants (table_of store.new) homes.now copies.new }
     ensures whole { IfOk result (λ answer. (n : ℕ) → answer ≡ DiffuseAnswer.Diffused n
