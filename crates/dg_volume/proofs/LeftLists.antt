@@ -1,5 +1,5 @@
 -- What is left of lists, one place after another.
-use Rattle.std.proofs.Common.{◌≡◌, ◌∙◌, ◌<◌, ◌+◌, ◌++◌, ◌&&◌, ◌||◌, ℕ, Bool, false, List, [], ◌∷◌, length, map, get_or, take, filter, not, sym, ap, arith, if◌then◌else◌, add-one, zero-add}
+use Rattle.std.proofs.Common.{◌≡◌, ◌∙◌, ◌<◌, ◌+◌, ◌++◌, ◌&&◌, ◌||◌, ℕ, Bool, false, List, [], ◌∷◌, length, map, get_or, take, filter, not, sym, ap, arith, cond, if◌then◌else◌, add-one, zero-add}
 use Rattle.std.specs.List.{range_with_len}
 use Rattle.std.proofs.Math.Seq.{take-suc}
 use Rattle.std.proofs.lemmas.List.{get_or_default, map-append, same_lists}
@@ -7,6 +7,7 @@ use Rattle.std.proofs.lemmas.List.Elements.{filter-append}
 use Rattle.std.proofs.lemmas.List.FromFn.{get_or-map-range_with_len, length-map-range_with_len}
 use Rattle.dg_model.proofs.ActionLists.{range_last}
 use Rattle.dg_model.specs.Marks.{is_marked}
+use Rattle.dg_model.specs.Moves.{count_upto}
 use Rattle.dg_volume.specs.Left.{marked_too, unmarked}
 
 -- ---- lists that grow at their end
@@ -28,6 +29,11 @@ map_more f xs n within =
     ap (λ k. map f (take k xs)) (add-one n)
     ∙ ap (map f) (take-suc xs n 0 within)
     ∙ map-append f (take n xs) (get_or xs n 0 ∷ [])
+
+-- ---- counts
+
+pub count_more : (test : ℕ → Bool) (n : ℕ) → count_upto (n + 1) test ≡ count_upto n test + cond (test n) 1 0
+count_more test n = ap (λ (k : ℕ). count_upto k test) (add-one n)
 
 -- ---- marks
 

@@ -6,12 +6,13 @@ use Rattle.std.proofs.lemmas.List.{length-replicate, take-replicate}
 use Rattle.dg_io.specs.Told.{IsZeros, Told, Torn}
 use Rattle.dg_io.specs.declared.outside.Rack.{Ghosts}
 use Rattle.dg_label.specs.Labels.{HasLength, HaveSameNumbers, IsLabeled, NotesLong, is_long}
-use Rattle.dg_label.specs.LineLaws.{line_on, own_seal, seal_on}
+use Rattle.dg_label.specs.LineLaws.{line_on, own_seal, place_is, room_fits, seal_on}
+use Rattle.dg_label.specs.Lines.{IsLineOf}
 use Rattle.dg_label.specs.declared.labels.KeptLabel.{KeptLabel}
 use Rattle.dg_model.proofs.MemberLaws.{NoneRecovers, falls_both, rose_after, rose_before}
 use Rattle.dg_model.specs.Changes.{IsMember, Misses, Passes, Replaces}
 use Rattle.dg_model.specs.Members.{MembersFall, OthersFall, is_filling, is_good, is_lost, partner_of}
-use Rattle.dg_model.specs.Saves.{member_length}
+use Rattle.dg_model.specs.Saves.{member_length, room_of}
 use Rattle.dg_model.specs.States.{CountsRise, State, after_calls}
 use Rattle.dg_model.specs.Tables.{Table}
 use Rattle.dg_model.specs.declared.events.Event.TheVariants.{Replace}

@@ -12,6 +12,6 @@ returns-in-Loose-clause-leaves g c = leaves_none any_phase g.R.Rack c.args.self.
 pub returns-in-Worn-clause-leaves : goal.returns-in-Worn-clause-leaves
 returns-in-Worn-clause-leaves g c = leaves_none any_phase g.R.Rack c.args.self.now c.requires.well
 
-pub returns-in-Settled-clause-steps : goal.returns-in-Settled-clause-steps
-returns-in-Settled-clause-steps g c =
-    subst (λ (r : DiffuseAnswer). StepsHot any_phase any_phase g.R.Rack c.args.hot.now c.args.self.now Diffuse (diffuse_reply r) c.spread-answer.new.self) (sym c.diffused.ensures) c.in_ok-answer.ensures.steps
+pub returns-in_ok-answer-in-Settled-clause-steps : goal.returns-in_ok-answer-in-Settled-clause-steps
+returns-in_ok-answer-in-Settled-clause-steps g c =
+    subst (λ (r : DiffuseAnswer). StepsHot any_phase any_phase g.R.Rack c.args.hot.now c.args.self.now Diffuse (diffuse_reply r) c.spread.new.self) (sym c.diffused.ensures) c.in_ok-answer-in-Settled.ensures.steps

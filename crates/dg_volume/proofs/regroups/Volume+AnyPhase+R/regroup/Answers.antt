@@ -75,7 +75,7 @@ returns-in_err-phase-clause-on g c =
     let a = c.args.self.now in
     let m : Volume AnyPhase g.row.R.Denot = record a { store = c.open_seal.new.store; label = c.open_seal.new.label } in
     let b = c.take_out-answer.new.self in
-    let f : Volume AnyPhase g.row.R.Denot = record b { store = c.phase_left-phase.new.store; levels = c.phase_left-phase.new.levels } in
+    let f : Volume AnyPhase g.row.R.Denot = record b { store = c.phase_left.new.store; levels = c.phase_left.new.levels } in
     let reduced : HasReduced g.R.Rack _ _ a m c.in-Some.remains b f = record {
       unsealed = record {
         well = c.requires.well;
@@ -106,7 +106,7 @@ returns-in_err-phase-clause-err g c =
     let a = c.args.self.now in
     let m : Volume AnyPhase g.row.R.Denot = record a { store = c.open_seal.new.store; label = c.open_seal.new.label } in
     let b = c.take_out-answer.new.self in
-    let f : Volume AnyPhase g.row.R.Denot = record b { store = c.phase_left-phase.new.store; levels = c.phase_left-phase.new.levels } in
+    let f : Volume AnyPhase g.row.R.Denot = record b { store = c.phase_left.new.store; levels = c.phase_left.new.levels } in
     let reduced : HasReduced g.R.Rack _ _ a m c.in-Some.remains b f = record {
       unsealed = record {
         well = c.requires.well;
@@ -137,7 +137,7 @@ returns-clause-on g c =
     let a = c.args.self.now in
     let m : Volume AnyPhase g.row.R.Denot = record a { store = c.open_seal.new.store; label = c.open_seal.new.label } in
     let b = c.take_out-answer.new.self in
-    let f : Volume AnyPhase g.row.R.Denot = record b { store = c.phase_left-phase.new.store; levels = c.phase_left-phase.new.levels; phase = c.in_ok-phase.phase } in
+    let f : Volume AnyPhase g.row.R.Denot = record b { store = c.phase_left.new.store; levels = c.phase_left.new.levels; phase = c.in_ok-phase.phase } in
     let reduced : HasReduced g.R.Rack _ _ a m c.in-Some.remains b f = record {
       unsealed = record {
         well = c.requires.well;
@@ -168,7 +168,7 @@ returns-clause-answer g c =
     let a = c.args.self.now in
     let m : Volume AnyPhase g.row.R.Denot = record a { store = c.open_seal.new.store; label = c.open_seal.new.label } in
     let b = c.take_out-answer.new.self in
-    let f : Volume AnyPhase g.row.R.Denot = record b { store = c.phase_left-phase.new.store; levels = c.phase_left-phase.new.levels; phase = c.in_ok-phase.phase } in
+    let f : Volume AnyPhase g.row.R.Denot = record b { store = c.phase_left.new.store; levels = c.phase_left.new.levels; phase = c.in_ok-phase.phase } in
     let reduced : HasReduced g.R.Rack _ _ a m c.in-Some.remains b f = record {
       unsealed = record {
         well = c.requires.well;
