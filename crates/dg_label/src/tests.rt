@@ -193,3 +193,27 @@ fn long_members_are_not_extended(rt: HostRuntime) -> Result<(), Fail> {
     );
     Ok(())
 }
+
+#[test]
+fn bits_go_to_new_places(rt: HostRuntime) -> Result<(), Fail> {
+    // Members 1, 4 and 5 of three boundaries are long.
+    for (lost, long) in [
+        (0, 0b110010),
+        (0b001, 0b1100),
+        (0b010, 0b1110),
+        (0b100, 0b0010),
+        (0b111, 0),
+    ] {
+        let mut label = Some(KeptLabel {
+            format: 1,
+            sequence: 1,
+            sealed: false,
+            body: 0,
+            long: 0b110010,
+        });
+        keep_left(&mut label, lost, 3);
+        let kept = label.ok_or("label")?;
+        assert_eq!(rt; kept.long, long);
+    }
+    Ok(())
+}
