@@ -182,6 +182,8 @@ module _ {S R : Type 0} (phase : phases.Ghosts S) (rack : Ghosts R) where
             settled = λ settled. in_place;
           };
           shape = same_shape;
+          boundaries = ap (λ (u : InUse). u.boundaries) h.in_use;
+          line = line;
           rise = h.moved.stays.stays.rise;
           tells = h.moved.stays.stays.tells;
           told_before = h.moved.stays.stays.told_before;

@@ -99,6 +99,8 @@ module _ {S R : Type 0} (phase : phases.Ghosts S) (rack : Ghosts R) where
           settled = λ settled. absurd (loose_not_settled (sym still ∙ settled));
         };
         shape = shape;
+        boundaries = ap (λ (u : InUse). u.boundaries) h.in_use;
+        line = line_moved a b h;
         rise = h.array.stays.stays.rise;
         tells = h.array.stays.stays.tells;
         told_before = h.array.stays.stays.told_before;

@@ -54,6 +54,7 @@ use Rattle.dg_volume.specs.Volumes.{FitsArray, HasLabel, IsWell, Known, Leaves, 
 use Rattle.dg_volume.specs.declared.in_use.InUse.{InUse}
 use Rattle.dg_volume.specs.declared.phases.AnyPhase.{AnyPhase}
 use Rattle.dg_volume.specs.declared.phases.AnyPhase.TheVariants.{Loose, Settled, Worn}
+use Rattle.dg_volume.specs.declared.phases.InPhase as phases
 use Rattle.dg_volume.specs.declared.regroups.Remains.{Remains}
 use Rattle.dg_volume.specs.declared.volumes.Volume.{Volume}
 
@@ -68,6 +69,11 @@ model_unsealed : (last : Option LastLabel) (label : Option KeptLabel) → IsKept
 model_unsealed None label is open_now = tt
 model_unsealed (Some last) None is open_now = absurd is
 model_unsealed (Some last) (Some kept) is open_now = is.sealed ∙ open_now
+
+-- ---- what any call leaves, also one that takes boundaries out of use
+
+pub goes_on : {S T R : Type 0} (from : phases.Ghosts S) (to : phases.Ghosts T) (rack : Ghosts R) (old : Volume S R) (new : Volume T R) → Leaves from to rack old new → GoesOn to rack old new
+goes_on from to rack old new h = record { well = h.well; boundaries = h.boundaries; line = h.line; calls = h.rise.calls; writes = h.rise.writes }
 
 -- ---- none is left
 
@@ -179,7 +185,7 @@ module _ {R : Type 0} (rack : Ghosts R) where
       }
 
   pub goes_none : (a : Volume AnyPhase R) → IsWell any_phase rack a → GoesOn any_phase rack a a
-  goes_none a well = record { well = well; boundaries = refl; line = refl; calls = omega arith; writes = omega arith }
+  goes_none a well = goes_on any_phase any_phase rack a a (leaves_none any_phase rack a well)
 
   -- ---- the opening of the seal
 
@@ -219,7 +225,7 @@ module _ {R : Type 0} (rack : Ghosts R) where
     open_leaves = leaves any_phase rack a m h.well keeps_open
 
     pub open_goes : GoesOn any_phase rack a m
-    open_goes = record { well = open_leaves.well; boundaries = ap (λ (u : InUse). u.boundaries) h.beside.in_use; line = line_kept any_phase rack a m keeps_open; calls = open_leaves.rise.calls; writes = open_leaves.rise.writes }
+    open_goes = goes_on any_phase any_phase rack a m open_leaves
 
     pub open_lost : has_lost (shape_of m) (members_of m) ≡ true
     open_lost =
@@ -257,6 +263,17 @@ module _ {R : Type 0} (rack : Ghosts R) where
     }
 
   -- ---- without the lost boundaries
+
+  -- what the reading of it asks for
+  pub out_levels : (boundaries : R → ℕ) (dropped : R → ℕ → R → Type 0) (remains : Remains) (m b : Volume AnyPhase R) → IsTakenOut rack boundaries dropped remains m b → IsWell any_phase rack m
+      → b.levels.fragment ≡ (shape_of b).l
+  out_levels boundaries dropped remains m b h well = h.levels_are ∙ well.levels ∙ sym (ap (λ (t : Table). t.shape.l) h.array.table)
+
+  pub out_size : (boundaries : R → ℕ) (dropped : R → ℕ → R → Type 0) (remains : Remains) (m b : Volume AnyPhase R) → IsTakenOut rack boundaries dropped remains m b → IsWell any_phase rack m
+      → length b.pending.items ≡ (shape_of b).n
+  out_size boundaries dropped remains m b h well =
+      ap length h.pending_is ∙ length-map-range_with_len (λ x. is_marked (marks_of any_phase m) x && not (gone_of m x)) 0 (length (marks_of any_phase m))
+      ∙ well.marks ∙ sym (ap (λ (t : Table). t.shape.n) h.array.table)
 
   module _ (boundaries : R → ℕ) (dropped : R → ℕ → R → Type 0) where
     -- The seal was opened, the lost boundaries were taken out, and what is left was read.
@@ -471,6 +488,11 @@ module _ {R : Type 0} (rack : Ghosts R) where
             );
       }
 
+      -- ---- before it was read
+
+      out_marks : length b.pending.items ≡ (shape_of m).n
+      out_marks = out_size boundaries dropped remains m b h.out (open_leaves a m h.unsealed).well ∙ ap (λ (x : Shape). x.n) shape_b
+
       -- ---- what holds between calls
 
       -- what a phase keeps is of what is left
@@ -531,10 +553,8 @@ module _ {R : Type 0} (rack : Ghosts R) where
       -- by the phase that was found
       pub phase_fits : IsPhaseLeft rack b.store f.store b.pending.items f.phase → FitsPhase
       phase_fits phase =
-          let well = (open_leaves a m h.unsealed).well in
-          let size : length b.pending.items ≡ (shape_of m).n =
-          ap length h.out.pending_is ∙ length-map-range_with_len (λ x. is_marked (marks_of any_phase m) x && not (gone_of m x)) 0 (length (marks_of any_phase m)) ∙ well.marks in record {
-            marks = ap length (pending_f phase) ∙ marks_size b.store f.store b.pending.items f.phase phase ∙ size ∙ sym (ap (λ (s : Shape). s.n) shape_f);
+          record {
+            marks = ap length (pending_f phase) ∙ marks_size b.store f.store b.pending.items f.phase phase ∙ out_marks ∙ sym (ap (λ (s : Shape). s.n) shape_f);
             inferred = subst (λ (s : Shape). IfSome (kept_in f.phase) (FitsArray s)) (sym h.read.reads.keeps.shape) (fits_of b.store f.store b.pending.items f.phase phase);
             worn = worn_of b.store f.store b.pending.items f.phase phase;
             unsettled = unsettled_of b.store f.store b.pending.items f.phase phase;

@@ -188,6 +188,8 @@ module _ {S R : Type 0} (phase : phases.Ghosts S) (rack : Ghosts R) where
     save_leaves well labeled = record {
       well = saved_well well labeled;
       shape = shape;
+      boundaries = refl;
+      line = line;
       rise = keeps.stays.stays.rise;
       tells = keeps.stays.stays.tells;
       told_before = keeps.stays.stays.told_before;

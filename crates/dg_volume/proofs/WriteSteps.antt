@@ -187,6 +187,8 @@ module _ {S T R : Type 0} (from : phases.Ghosts S) (to : phases.Ghosts T) (rack 
     pub own : CallsBelow rack (shape_of a).b (rack_of a) (rack_of c)
     pub same_rack : rack.name (rack_of c) ≡ rack.name (rack_of a)
     pub levels : c.levels.fragment ≡ a.levels.fragment
+    pub boundaries : c.in_use.boundaries ≡ a.in_use.boundaries
+    pub line : line_of c ≡ line_of a
     pub homes : c.homes ≡ a.homes
     pub copies : AreHomes (shape_of a) c.copies
     pub marks : length (marks_of to c) ≡ length (marks_of from a)
@@ -214,6 +216,8 @@ module _ {S T R : Type 0} (from : phases.Ghosts S) (to : phases.Ghosts T) (rack 
       settled = λ settled. absurd (h.settled settled);
     };
     shape = h.shape;
+    boundaries = h.boundaries;
+    line = h.line;
     rise = h.rise;
     tells = h.tells;
     told_before = h.told_before;
@@ -322,6 +326,8 @@ module _ {S T R : Type 0} (from : phases.Ghosts S) (to : phases.Ghosts T) (rack 
         told_before = λ q told. h.array.first.stays.stays.told_before q (h.array.reads.keeps.stays.told_before q told);
         own = own_then rack a.store m c.store h.array.first.stays.shape h.array.first.stays.own h.array.reads.keeps.own;
         same_rack = h.array.reads.keeps.stays.same_rack ∙ h.array.first.stays.stays.same_rack;
+        boundaries = h.boundaries;
+        line = line_written a b block m c h;
         levels = h.levels;
         homes = h.homes;
         copies = subst (λ (x : List Home). AreHomes (shape_of a) x) (sym h.copies) (no_homes (shape_of a));
@@ -522,10 +528,10 @@ module _ {S T R : Type 0} (from : phases.Ghosts S) (to : phases.Ghosts T) (rack 
 
 module _ {S T R : Type 0} (from : phases.Ghosts S) (to : phases.Ghosts T) (rack : Ghosts R) where
   -- a loose volume is left
-  pub loosened_leaves : (a : Volume S R) (m : Store R) (kept now : KeptInference) (c : Volume T R) → IsWell from rack a → FitsReduced (table_of c) (reduced_of c) → c.in_use.long ≡ a.in_use.long → FallsOn rack a.store m → IsSound rack c.store → ReadsOn rack m c.store
+  pub loosened_leaves : (a : Volume S R) (m : Store R) (kept now : KeptInference) (c : Volume T R) → IsWell from rack a → FitsReduced (table_of c) (reduced_of c) → c.in_use.boundaries ≡ a.in_use.boundaries → c.in_use.long ≡ a.in_use.long → FallsOn rack a.store m → IsSound rack c.store → ReadsOn rack m c.store
       → c.levels.fragment ≡ a.levels.fragment → c.homes ≡ a.homes → c.copies ≡ [] → from.kept a.phase ≡ Some kept → to.kept c.phase ≡ Some now → to.phase c.phase ≡ LoosePhase
       → (now.l ≡ kept.l) × (now.n ≡ kept.n) → length now.pending ≡ length kept.pending → Labels rack a c → Leaves from to rack a c
-  loosened_leaves a m kept now c well in_use same first sound reads levels homes copies had has loose size room labels =
+  loosened_leaves a m kept now c well in_use bounds same first sound reads levels homes copies had has loose size room labels =
       let fitted : FitsArray (shape_of a) kept = subst (λ (o : Option KeptInference). IfSome o (FitsArray (shape_of a))) had well.inferred in
       left_leaves from to rack a c well (record {
         sound = sound;
@@ -535,6 +541,8 @@ module _ {S T R : Type 0} (from : phases.Ghosts S) (to : phases.Ghosts T) (rack 
         told_before = λ q told. first.stays.stays.told_before q (reads.keeps.stays.told_before q told);
         own = own_then rack a.store m c.store first.stays.shape first.stays.own reads.keeps.own;
         same_rack = reads.keeps.stays.same_rack ∙ first.stays.stays.same_rack;
+        boundaries = bounds;
+        line = line_same a c same (reads.keeps.shape ∙ first.stays.shape);
         levels = levels;
         homes = homes;
         copies = subst (λ (x : List Home). AreHomes (shape_of a) x) (sym copies) (no_homes (shape_of a));

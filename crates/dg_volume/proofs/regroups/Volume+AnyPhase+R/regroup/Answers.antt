@@ -1,6 +1,6 @@
 use Rattle.std.proofs.Common.{◌≡◌, ◌∙◌, inl, inr, refl, subst, sym}
 use Rattle.dg_model.specs.States.{has_lost}
-use Rattle.dg_volume.proofs.RegroupSteps.{HasReduced, HasUnsealed, blank_fits, few_goes, goes_none, left_goes, left_kept, none_goes, open_goes, open_leaves, phase_fits, regrouped, whole_goes}
+use Rattle.dg_volume.proofs.RegroupSteps.{HasReduced, HasUnsealed, blank_fits, few_goes, goes_none, left_goes, left_kept, none_goes, open_goes, open_leaves, out_levels, out_size, phase_fits, regrouped, whole_goes}
 use Rattle.dg_volume.specs.Regroups.{AnswersRegroup}
 use Rattle.dg_volume.specs.Volumes.{any_phase, members_of, shape_of}
 use Rattle.dg_volume.specs.declared.phases.AnyPhase.{AnyPhase}
@@ -215,3 +215,39 @@ take_out-requires-clause-boundaries g c =
     let k = c.open_seal.ensures.array.stays in
     let few = c.requires.boundaries c.open_seal.new.store.rack k.stays.same_rack in
     subst (λ s. s.b ≤ _) (sym k.shape) few
+
+pub remains_of-requires-clause-copies : goal.remains_of-requires-clause-copies
+remains_of-requires-clause-copies g c = c.requires.well.copies_are.0
+
+pub phase_left-requires-clause-sound : goal.phase_left-requires-clause-sound
+phase_left-requires-clause-sound g c = c.take_out-answer.ensures.out.array.sound
+
+pub phase_left-requires-clause-levels : goal.phase_left-requires-clause-levels
+phase_left-requires-clause-levels g c =
+    let a = c.args.self.now in
+    let m : Volume AnyPhase g.row.R.Denot = record a { store = c.open_seal.new.store; label = c.open_seal.new.label } in
+    let leaves = open_leaves g.R.Rack a m (record {
+      well = c.requires.well;
+      lost = sym c.is_degraded.ensures ∙ c.if-not-is_degraded.false;
+      beside = record { phase_is = refl; pending = refl; homes = refl; copies = refl; in_use = refl };
+      levels = refl;
+      given_is = refl;
+      good = c.has_good.ensures.some c.if-not-has_good.false;
+      opening = c.open_seal.ensures;
+    }) in
+    out_levels g.R.Rack _ _ c.in-Some.remains m c.take_out-answer.new.self c.take_out-answer.ensures.out leaves.well
+
+pub phase_left-requires-clause-marks : goal.phase_left-requires-clause-marks
+phase_left-requires-clause-marks g c =
+    let a = c.args.self.now in
+    let m : Volume AnyPhase g.row.R.Denot = record a { store = c.open_seal.new.store; label = c.open_seal.new.label } in
+    let leaves = open_leaves g.R.Rack a m (record {
+      well = c.requires.well;
+      lost = sym c.is_degraded.ensures ∙ c.if-not-is_degraded.false;
+      beside = record { phase_is = refl; pending = refl; homes = refl; copies = refl; in_use = refl };
+      levels = refl;
+      given_is = refl;
+      good = c.has_good.ensures.some c.if-not-has_good.false;
+      opening = c.open_seal.ensures;
+    }) in
+    out_size g.R.Rack _ _ c.in-Some.remains m c.take_out-answer.new.self c.take_out-answer.ensures.out leaves.well

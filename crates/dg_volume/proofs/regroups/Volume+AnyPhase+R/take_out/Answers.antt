@@ -39,3 +39,10 @@ returns-clause-out g c =
 
 pub unmark_gone-requires-clause-size : goal.unmark_gone-requires-clause-size
 unmark_gone-requires-clause-size g c = ap length c.take_marks.ensures.marks ∙ c.requires.well.marks
+
+pub keep_left-requires : goal.keep_left-requires
+keep_left-requires g c =
+    let b = ap (λ (s : Shape). s.b) c.shape.ensures in
+    let shape = c.requires.well.array.table.shape in
+    let most = shape.most_boundaries in
+    omega (arith, b, most)
