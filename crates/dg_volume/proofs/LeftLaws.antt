@@ -29,7 +29,7 @@ use Rattle.dg_volume.specs.Left.{marked_too}
 -- ---- homes
 
 -- it is of this inode, and on a boundary that is left
-abbrev IsOn : List ℕ → ℕ → Home → Type 0
+abbrev pub IsOn : List ℕ → ℕ → Home → Type 0
 IsOn left i home = (home.inode ≡ i) × (home.boundary < length left)
 
 moved_on : (left : List ℕ) (i : ℕ) (at : Option ℕ) → IfSome (moved_home left i at) (IsOn left i)
@@ -48,7 +48,7 @@ home_on left copies home = by_test (is_left left home.boundary)
     by_test false = moved_on left home.inode (home_of copies home.inode)
 
 -- the inodes fit, and the boundaries are below a number
-abbrev Fit : ℕ → Home → Type 0
+abbrev pub Fit : ℕ → Home → Type 0
 Fit n home = (home.inode < 2 ^ 32) × (home.boundary < n)
 
 pub homes_fit : (left : List ℕ) (n : ℕ) (copies homes : List Home) → All (Fit n) homes → All (Fit (length left)) (homes_left left copies homes)

@@ -173,13 +173,14 @@ module _ {R : Type 0} (rack : Ghosts R) where
   pub none_goes : (a : Volume AnyPhase R) → IsWell any_phase rack a → has_lost (shape_of a) (members_of a) ≡ true → HasNoGood a.store → GoesBy any_phase any_phase rack a Regroup TooFew a
   none_goes a well lost none =
       let read = read_none any_phase rack a well in
-      let few : length (left_in a.store) ≡ 0 = ap length (none_passes (is_lost (members_of a)) (all_are_lost (members_of a) none) (range_with_len 0 (shape_of a).b)) in record {
+      let few : length (left_in a.store) ≡ 0 = ap length (none_passes (is_lost (members_of a)) (all_are_lost (members_of a) none) (range_with_len 0 (shape_of a).b)) in
+      let small : length (left_in a.store) < 2 = omega (arith, few) in record {
         leaves = leaves_none any_phase rack a well;
         given_is = refl;
         steps = steps_from any_phase rack a a Regroup TooFew (λ origin rest V label holds. (
           read_state any_phase rack a a read rest V,
           reads_in any_phase rack a a rest V label read holds,
-          (lost, λ q good. absurd (false≢true (sym (none q) ∙ good)), inr (inl (omega (arith, few))), reads_stay any_phase rack a a rest V label read),
+          (lost, λ q good. absurd (false≢true (sym (none q) ∙ good)), inr (inl small), reads_stay any_phase rack a a rest V label read),
           refl,
         ));
       }
@@ -203,7 +204,7 @@ module _ {R : Type 0} (rack : Ghosts R) where
     abbrev labels_open : Labels rack a m
     labels_open = relabels_opened rack (line_of a) a.store m.store a.label m.label h.good h.opening
 
-    keeps_open : Keeps any_phase rack a m
+    abbrev keeps_open : Keeps any_phase rack a m
     keeps_open = let k = h.opening.array in record {
       beside = h.beside;
       labeled = h.well.labeled;
@@ -459,7 +460,7 @@ module _ {R : Type 0} (rack : Ghosts R) where
 
       -- ---- what became of the array
 
-      takes_out : TakesOut rack boundaries dropped a.store f.store
+      abbrev takes_out : TakesOut rack boundaries dropped a.store f.store
       takes_out = record {
         mid = m.store;
         left = b.store;
@@ -506,9 +507,9 @@ module _ {R : Type 0} (rack : Ghosts R) where
       in_use_f =
           let table = h.read.reads.table ∙ h.out.array.table in
           let fits = fits_left (table_of m) (members_of m) (reduced_of m) (open_leaves a m h.unsealed).well.in_use in
-          let now : record { boundaries = m.in_use.boundaries; live = map (boundary_at (live_of m)) left; cut = marked_too (gone_of m) (cut_of m) } ≡ reduced_of f =
+          let now : record (reduced_of m) { live = map (boundary_at (live_of m)) left; cut = marked_too (gone_of m) (cut_of m) } ≡ reduced_of f =
           λ i. record { boundaries = sym (ap (λ (u : InUse). u.boundaries) h.in_use ∙ h.out.boundaries_are) i; live = sym (ap (λ (u : InUse). u.live.items) h.in_use ∙ h.out.live_is) i; cut = sym (ap (λ (u : InUse). u.cut.items) h.in_use ∙ h.out.cut_is) i } in
-          subst (λ (t : Table). FitsReduced t (reduced_of f)) (sym table) (subst (λ (r : Reduced). FitsReduced _ r) now fits)
+          subst (λ (t : Table). FitsReduced t (reduced_of f)) (sym table) (subst (λ (r : Reduced). FitsReduced (table_left left (table_of m)) r) now fits)
 
       homes_f : AreHomes (shape_of f) f.homes × (length f.homes ≤ (shape_of f).n)
       homes_f =

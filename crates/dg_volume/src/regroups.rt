@@ -1,6 +1,5 @@
 // Going on without the lost boundaries.
-ghost use Rattle.std.specs.Prelude.{◌≡◌, ◌⊎◌, ◌≤◌, IfNone, IfOk, IfSome, OnErr, Some, length};
-ghost use Rattle.dg_infer.specs.Meanings.{KeptInference};
+ghost use Rattle.std.specs.Prelude.{◌≡◌, ◌≤◌, IfNone, IfOk, IfSome, OnErr, Some, length};
 ghost use Rattle.dg_model.specs.Homes.{Ascend};
 ghost use Rattle.dg_model.specs.declared.phases.Phase.{Phase};
 ghost use Rattle.dg_store.specs.Stores.{IsSound};
@@ -8,7 +7,7 @@ ghost use Rattle.dg_store.specs.Stores as stores;
 ghost use Rattle.dg_volume.specs.Phases.{kept_in, phase_in};
 ghost use Rattle.dg_volume.specs.Planned.{HasReadArray};
 ghost use Rattle.dg_volume.specs.Regroups.{AnswersRegroup, AreRemains, GoesOn, HasBoundaries, HasTooFew, IsPhaseLeft, IsTakenOut, KeepsOrLeaves, gone_count, lost_count};
-ghost use Rattle.dg_volume.specs.Volumes.{IsWell, any_phase, given_of, live_of, marks_by, members_of, rack_of, shape_of};
+ghost use Rattle.dg_volume.specs.Volumes.{IsWell, any_phase, given_of, live_of, marks_by, rack_of, shape_of};
 
 use crate::in_use::InUse;
 use crate::left_lists::{count_gone, count_lost, has_good, mark_gone, numbers_at, places_left, unmark_gone};

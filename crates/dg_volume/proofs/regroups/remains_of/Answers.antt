@@ -1,6 +1,7 @@
-use Rattle.std.proofs.Common.{◌≡◌, ◌∙◌, ℕ, List, length, ap, sym, subst}
+use Rattle.std.proofs.Common.{◌≡◌, ◌∙◌, ℕ, List, length, map, ap, refl, subst}
 use Rattle.std.proofs.lemmas.List.{length-replicate}
 use Rattle.dg_io.specs.Reduced.{places_left}
+use Rattle.dg_model.specs.Lives.{boundary_at}
 use Rattle.dg_model.specs.declared.shapes.Shape.{Shape}
 use Rattle.dg_regroup.specs.Cuts.{IsTooFew}
 use Rattle.dg_store.specs.Reduced.{left_in}
@@ -23,4 +24,4 @@ returns-clause-left g c =
     ap (λ (n : ℕ). places_left n c.shape.result.now.b) c.lost.ensures ∙ ap (λ (s : Shape). places_left _ s.b) c.shape.ensures ∙ c.bits_leave_the_live.ensures in
     remains_made store c.args.homes.now c.args.copies.now c.args.in_use.now.live.items (places_left c.lost.result c.shape.result.now.b) c.shape.result.now c.map.result.now c.in-Some.over _
     c.shape.ensures c.map.ensures places (not_few _ c.in-Some.over _ c.in-Some.is (c.in_ok-over.ensures.few.1)) (rw c.in-Some.is at c.in_ok-over.ensures.left) refl refl
-    (rw c.in_ok-places.ensures at c.in_ok-live.ensures) c.in_ok-blank.ensures.size (ap length c.in_ok-blank.ensures.pending ∙ length-replicate c.shape.result.now.n false)
+    (c.in_ok-live.ensures ∙ ap (map (boundary_at c.args.in_use.now.live.items)) (c.deref.ensures.value ∙ c.in_ok-places.ensures)) c.in_ok-blank.ensures.size (ap length c.in_ok-blank.ensures.pending ∙ length-replicate c.shape.result.now.n false)

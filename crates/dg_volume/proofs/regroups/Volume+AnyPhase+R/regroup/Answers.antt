@@ -1,7 +1,7 @@
-use Rattle.std.proofs.Common.{◌≡◌, ◌∙◌, inl, inr, refl, subst, sym}
+use Rattle.std.proofs.Common.{◌≡◌, ◌∙◌, ◌≤◌, Bool, List, inl, inr, length, ap, refl, subst, sym}
 use Rattle.dg_model.specs.States.{has_lost}
 use Rattle.dg_volume.proofs.RegroupSteps.{HasReduced, HasUnsealed, blank_fits, few_goes, goes_none, left_goes, left_kept, none_goes, open_goes, open_leaves, out_levels, out_size, phase_fits, regrouped, whole_goes}
-use Rattle.dg_volume.specs.Regroups.{AnswersRegroup}
+use Rattle.dg_volume.specs.Regroups.{AnswersRegroup, IsPhaseLeft}
 use Rattle.dg_volume.specs.Volumes.{any_phase, members_of, shape_of}
 use Rattle.dg_volume.specs.declared.phases.AnyPhase.{AnyPhase}
 use Rattle.dg_volume.specs.declared.regroups.RegroupAnswer.{RegroupAnswer}
@@ -161,7 +161,8 @@ returns-clause-on g c =
       are_left = c.labels_are_left.ensures.labeled;
       stand_left = c.labels_are_left.ensures.stands;
     } in
-    left_goes g.R.Rack _ _ a m c.in-Some.remains b f reduced (phase_fits g.R.Rack _ _ a m c.in-Some.remains b f reduced c.in_ok-phase.ensures.phase)
+    left_goes g.R.Rack _ _ a m c.in-Some.remains b f reduced (phase_fits g.R.Rack _ _ a m c.in-Some.remains b f reduced
+    (subst (λ (xs : List Bool). IsPhaseLeft g.R.Rack b.store f.store xs f.phase) c.deref.ensures.value c.in_ok-phase.ensures.phase))
 
 pub returns-clause-answer : goal.returns-clause-answer
 returns-clause-answer g c =
@@ -193,7 +194,8 @@ returns-clause-answer g c =
       stand_left = c.labels_are_left.ensures.stands;
     } in
     subst (λ (answer : RegroupAnswer). AnswersRegroup g.R.Rack _ _ a f answer) (sym c.take_out-answer.ensures.answer)
-    (regrouped g.R.Rack _ _ a m c.in-Some.remains b f reduced c.in_ok-phase.ensures.phase)
+    (regrouped g.R.Rack _ _ a m c.in-Some.remains b f reduced
+    (subst (λ (xs : List Bool). IsPhaseLeft g.R.Rack b.store f.store xs f.phase) c.deref.ensures.value c.in_ok-phase.ensures.phase))
 
 pub take_out-requires-clause-well : goal.take_out-requires-clause-well
 take_out-requires-clause-well g c =
@@ -250,4 +252,4 @@ phase_left-requires-clause-marks g c =
       good = c.has_good.ensures.some c.if-not-has_good.false;
       opening = c.open_seal.ensures;
     }) in
-    out_size g.R.Rack _ _ c.in-Some.remains m c.take_out-answer.new.self c.take_out-answer.ensures.out leaves.well
+    ap length c.deref.ensures.value ∙ out_size g.R.Rack _ _ c.in-Some.remains m c.take_out-answer.new.self c.take_out-answer.ensures.out leaves.well
