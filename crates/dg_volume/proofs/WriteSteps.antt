@@ -461,7 +461,7 @@ module _ {S T R : Type 0} (from : phases.Ghosts S) (to : phases.Ghosts T) (rack 
         homes = homes;
         copies = copies;
         boundaries = uncuts.boundaries;
-    long = uncuts.long;
+        long = uncuts.long;
         live = uncuts.live;
         cut = uncuts.cut;
         labeled = well.labeled;

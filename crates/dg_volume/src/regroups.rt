@@ -10,7 +10,9 @@ ghost use Rattle.dg_volume.specs.Regroups.{AnswersRegroup, AreRemains, GoesOn, H
 ghost use Rattle.dg_volume.specs.Volumes.{IsWell, any_phase, given_of, live_of, marks_by, rack_of, shape_of};
 
 use crate::in_use::InUse;
-use crate::left_lists::{count_gone, count_lost, has_good, mark_gone, numbers_at, places_left, unmark_gone};
+use crate::left_lists::{
+    count_gone, count_lost, has_good, mark_gone, numbers_at, places_left, unmark_gone,
+};
 use crate::phases::{AnyPhase, Loose, Worn};
 use crate::volumes::Volume;
 use crate::writes::take_inference;

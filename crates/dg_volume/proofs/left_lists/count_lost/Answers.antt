@@ -12,9 +12,9 @@ loop-place-preserved g c =
     let one = ap (λ (b : Bool). cond {A = ℕ} b 1 0) (sym c.is_lost.ensures) in
     elim c.if-is_lost.branch [
       | then-is_lost w ↦
-          let is = one ∙ ap (λ (b : Bool). cond {A = ℕ} b 1 0) w.if-is_lost in
+          let is = one ∙ ap (λ (b : Bool). cond {A = ℕ} b 1 0) w.if-is_lost.true in
           record { few = omega (arith, w.count-is, h.few); count_is = omega (arith, w.count-is, h.count_is, more, is) }
       | else-is_lost w ↦
-          let is = one ∙ ap (λ (b : Bool). cond {A = ℕ} b 1 0) w.if-is_lost in
+          let is = one ∙ ap (λ (b : Bool). cond {A = ℕ} b 1 0) w.if-is_lost.false in
           record { few = omega (arith, w.count-is, h.few); count_is = omega (arith, w.count-is, h.count_is, more, is) }
     ]
