@@ -99,7 +99,7 @@ module _ {S R : Type 0} (phase : phases.Ghosts S) (rack : Ghosts R) where
   shape_kept a b keeps = ap (λ (t : Table). t.shape) keeps.table
 
   -- so are the numbers by which members are as long
-  line_kept : (a b : Volume S R) → Keeps a b → line_of b ≡ line_of a
+  pub line_kept : (a b : Volume S R) → Keeps a b → line_of b ≡ line_of a
   line_kept a b keeps = line_same a b (ap (λ (u : InUse). u.long) keeps.beside.in_use) (shape_kept a b keeps)
 
   marks_kept : (a b : Volume S R) → IsBeside a b → marks_of phase b ≡ marks_of phase a

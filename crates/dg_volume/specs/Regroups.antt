@@ -49,7 +49,7 @@ pub record GoesOn {S T R : Type 0} (to : phases.Ghosts T) (rack : Ghosts R) (old
 
 -- A rack with this name has as many boundaries as the array at least.
 abbrev pub HasBoundaries : {S R : Type 0} → Ghosts R → (R → ℕ) → Volume S R → Type 0
-HasBoundaries rack boundaries volume = (r : R) → rack.name r ≡ rack.name (rack_of volume) → (shape_of volume).b ≤ boundaries r
+HasBoundaries {R = R} rack boundaries volume = (r : R) → rack.name r ≡ rack.name (rack_of volume) → (shape_of volume).b ≤ boundaries r
 
 -- what is left of an array is too few
 abbrev pub HasTooFew : {R : Type 0} → Store R → Type 0

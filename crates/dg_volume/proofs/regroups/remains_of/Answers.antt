@@ -1,4 +1,4 @@
-use Rattle.std.proofs.Common.{◌≡◌, ◌∙◌, ℕ, List, length, map, ap, refl, subst}
+use Rattle.std.proofs.Common.{◌≡◌, ◌∙◌, ℕ, List, false, length, map, ap, refl, subst}
 use Rattle.std.proofs.lemmas.List.{length-replicate}
 use Rattle.dg_io.specs.Reduced.{places_left}
 use Rattle.dg_model.specs.Lives.{boundary_at}
@@ -12,16 +12,16 @@ use Rattle.dg_volume.proofs.regroups.remains_of.Goals as goal
 pub returns-in_default-clause-few : goal.returns-in_default-clause-few
 returns-in_default-clause-few g c =
     let store = c.args.store.now in
-    let shape = c.shape.ensures in
-    let places : places_left c.lost.result c.shape.result.now.b ≡ left_in store =
-    ap (λ (n : ℕ). places_left n c.shape.result.now.b) c.lost.ensures ∙ ap (λ (s : Shape). places_left _ s.b) shape ∙ c.bits_leave_the_live.ensures in
-    subst (λ (s : Shape). IsTooFew (left_in store) s) shape (subst (λ (xs : List ℕ). IsTooFew xs c.shape.result.now) places (c.in_ok-over.ensures.few.0 c.in_default.is))
+    let shape = c.shape-shape.ensures in
+    let places : places_left c.lost.result c.shape-shape.result.now.b ≡ left_in store =
+    ap (λ (n : ℕ). places_left n c.shape-shape.result.now.b) c.lost.ensures ∙ ap (λ (s : Shape). places_left _ s.b) shape ∙ c.bits_leave_the_live.ensures in
+    subst (λ (s : Shape). IsTooFew (left_in store) s) shape (subst (λ (xs : List ℕ). IsTooFew xs c.shape-shape.result.now) places (c.in_ok-over.ensures.few.0 c.in_default.is))
 
 pub returns-clause-left : goal.returns-clause-left
 returns-clause-left g c =
     let store = c.args.store.now in
-    let places : places_left c.lost.result c.shape.result.now.b ≡ left_in store =
-    ap (λ (n : ℕ). places_left n c.shape.result.now.b) c.lost.ensures ∙ ap (λ (s : Shape). places_left _ s.b) c.shape.ensures ∙ c.bits_leave_the_live.ensures in
-    remains_made store c.args.homes.now c.args.copies.now c.args.in_use.now.live.items (places_left c.lost.result c.shape.result.now.b) c.shape.result.now c.map.result.now c.in-Some.over _
-    c.shape.ensures c.map.ensures places (not_few _ c.in-Some.over _ c.in-Some.is (c.in_ok-over.ensures.few.1)) (rw c.in-Some.is at c.in_ok-over.ensures.left) refl refl
-    (c.in_ok-live.ensures ∙ ap (map (boundary_at c.args.in_use.now.live.items)) (c.deref.ensures.value ∙ c.in_ok-places.ensures)) c.in_ok-blank.ensures.size (ap length c.in_ok-blank.ensures.pending ∙ length-replicate c.shape.result.now.n false)
+    let places : places_left c.lost.result c.shape-shape.result.now.b ≡ left_in store =
+    ap (λ (n : ℕ). places_left n c.shape-shape.result.now.b) c.lost.ensures ∙ ap (λ (s : Shape). places_left _ s.b) c.shape-shape.ensures ∙ c.bits_leave_the_live.ensures in
+    remains_made store c.args.homes.now c.args.copies.now c.args.in_use.now.live.items (places_left c.lost.result c.shape-shape.result.now.b) c.shape-shape.result.now c.map.result.now c.in-Some.over _
+    c.shape-shape.ensures c.map.ensures places (not_few _ c.in-Some.over _ c.in-Some.is (c.in_ok-over.ensures.few.1)) (rw c.in-Some.is at c.in_ok-over.ensures.left) refl refl
+    (c.in_ok-live.ensures ∙ ap (map (boundary_at c.args.in_use.now.live.items)) (c.deref.ensures.value ∙ c.in_ok-places.ensures)) c.in_ok-blank.ensures.size (ap length c.in_ok-blank.ensures.pending ∙ length-replicate c.shape-shape.result.now.n false)
