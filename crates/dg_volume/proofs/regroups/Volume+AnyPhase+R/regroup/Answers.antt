@@ -1,5 +1,6 @@
 use Rattle.std.proofs.Common.{◌≡◌, ◌∙◌, ◌≤◌, Bool, List, inl, inr, length, ap, refl, subst, sym}
 use Rattle.dg_model.specs.States.{has_lost}
+use Rattle.dg_volume.proofs.ArrayLaws.{on_err}
 use Rattle.dg_volume.proofs.RegroupSteps.{HasReduced, HasUnsealed, blank_fits, few_goes, goes_none, left_goes, left_kept, none_goes, open_goes, open_leaves, out_levels, out_size, phase_fits, regrouped, whole_goes}
 use Rattle.dg_volume.specs.Regroups.{AnswersRegroup, IsPhaseLeft}
 use Rattle.dg_volume.specs.Volumes.{any_phase, members_of, shape_of}
@@ -38,7 +39,7 @@ returns-in_err-found-clause-on g c =
     })
 
 pub returns-in_err-found-clause-err : goal.returns-in_err-found-clause-err
-returns-in_err-found-clause-err g c = inl (λ told. c.open_seal.ensures.array.stands)
+returns-in_err-found-clause-err g c = on_err c.from_residual.result _ (inl (λ told. c.open_seal.ensures.array.stands))
 
 pub returns-in_default-clause-on : goal.returns-in_default-clause-on
 returns-in_default-clause-on g c =
@@ -130,7 +131,7 @@ returns-in_err-phase-clause-err g c =
       are_left = c.labels_are_left.ensures.labeled;
       stand_left = c.labels_are_left.ensures.stands;
     } in
-    inr (left_kept g.R.Rack _ _ a m c.in-Some.remains b f reduced)
+    on_err _ _ (inr (left_kept g.R.Rack _ _ a m c.in-Some.remains b f reduced))
 
 pub returns-clause-on : goal.returns-clause-on
 returns-clause-on g c =
@@ -197,8 +198,8 @@ returns-clause-answer g c =
     (regrouped g.R.Rack _ _ a m c.in-Some.remains b f reduced
     (subst (λ (xs : List Bool). IsPhaseLeft g.R.Rack b.store f.store xs f.phase) c.deref.ensures.value c.in_ok-phase.ensures.phase))
 
-pub take_out-requires-clause-well : goal.take_out-requires-clause-well
-take_out-requires-clause-well g c =
+pub take_out-answer-requires-clause-well : goal.take_out-answer-requires-clause-well
+take_out-answer-requires-clause-well g c =
     let a = c.args.self.now in
     let m : Volume AnyPhase g.row.R.Denot = record a { store = c.open_seal.new.store; label = c.open_seal.new.label } in
     let leaves = open_leaves g.R.Rack a m (record {
@@ -212,8 +213,8 @@ take_out-requires-clause-well g c =
     }) in
     leaves.well
 
-pub take_out-requires-clause-boundaries : goal.take_out-requires-clause-boundaries
-take_out-requires-clause-boundaries g c =
+pub take_out-answer-requires-clause-boundaries : goal.take_out-answer-requires-clause-boundaries
+take_out-answer-requires-clause-boundaries g c =
     let k = c.open_seal.ensures.array.stays in
     let few = c.requires.boundaries c.open_seal.new.store.rack k.stays.same_rack in
     subst (λ s. s.b ≤ _) (sym k.shape) few

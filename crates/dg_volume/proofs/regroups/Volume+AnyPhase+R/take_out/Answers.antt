@@ -4,6 +4,7 @@ use Rattle.dg_model.specs.declared.shapes.Shape.{Shape}
 use Rattle.dg_io.specs.Reduced.{places_left}
 use Rattle.dg_label.specs.Lefts.{KeepsLeft}
 use Rattle.dg_store.specs.Reduced.{left_in}
+use Rattle.dg_store.specs.Stores.{lost_bits, members_of, shape_of}
 use Rattle.dg_volume.proofs.LeftLists.{marked_is, unmarked_is}
 use Rattle.dg_volume.specs.Regroups.{gone_of}
 use Rattle.dg_volume.specs.Volumes.{any_phase, cut_of, marks_of}
@@ -19,7 +20,7 @@ returns-clause-out g c =
     let unmark = c.unmark_gone.ensures in
     let mark = c.mark_gone.ensures in
     let places : places_left c.lost.result c.shape.result.now.b ≡ left_in a.store =
-    ap (λ n. places_left n c.shape.result.now.b) c.lost.ensures ∙ ap (λ (s : Shape). places_left _ s.b) c.shape.ensures ∙ c.bits_leave_the_live.ensures in record {
+    ap (λ n. places_left n c.shape.result.now.b) c.lost.ensures ∙ ap (λ (s : Shape). places_left (lost_bits (members_of a.store) (shape_of a.store).b) s.b) c.shape.ensures ∙ c.bits_leave_the_live.ensures in record {
       array = c.reduce.ensures;
       phase_is = c.take_marks.ensures.phase;
       kept_is = c.take_marks.ensures.kept;
