@@ -1,9 +1,8 @@
-use Rattle.std.proofs.Common.{◌≡◌, ◌∙◌, ◌≤◌, Bool, List, inl, inr, length, ap, refl, subst, sym}
-use Rattle.dg_model.specs.States.{has_lost}
+use Rattle.std.proofs.Common.{◌∙◌, ◌≤◌, Bool, List, inl, inr, length, ap, refl, subst, sym}
+use Rattle.dg_model.specs.declared.shapes.Shape.{Shape}
 use Rattle.dg_volume.proofs.ArrayLaws.{on_err}
-use Rattle.dg_volume.proofs.RegroupSteps.{HasReduced, HasUnsealed, blank_fits, few_goes, goes_none, left_goes, left_kept, none_goes, open_goes, open_leaves, out_levels, out_size, phase_fits, regrouped, whole_goes}
+use Rattle.dg_volume.proofs.RegroupSteps.{HasReduced, blank_fits, few_goes, goes_none, left_goes, left_kept, none_goes, open_goes, open_leaves, out_levels, out_size, phase_fits, regrouped, whole_goes}
 use Rattle.dg_volume.specs.Regroups.{AnswersRegroup, IsPhaseLeft}
-use Rattle.dg_volume.specs.Volumes.{any_phase, members_of, shape_of}
 use Rattle.dg_volume.specs.declared.phases.AnyPhase.{AnyPhase}
 use Rattle.dg_volume.specs.declared.regroups.RegroupAnswer.{RegroupAnswer}
 use Rattle.dg_volume.specs.declared.volumes.Volume.{Volume}
@@ -217,7 +216,7 @@ pub take_out-answer-requires-clause-boundaries : goal.take_out-answer-requires-c
 take_out-answer-requires-clause-boundaries g c =
     let k = c.open_seal.ensures.array.stays in
     let few = c.requires.boundaries c.open_seal.new.store.rack k.stays.same_rack in
-    subst (λ s. s.b ≤ _) (sym k.shape) few
+    subst (λ (s : Shape). s.b ≤ g.R.Reduces.boundaries c.open_seal.new.store.rack) (sym k.shape) few
 
 pub remains_of-requires-clause-copies : goal.remains_of-requires-clause-copies
 remains_of-requires-clause-copies g c = c.requires.well.copies_are.0

@@ -1,4 +1,4 @@
-use Rattle.std.proofs.Common.{◌≡◌, ◌∙◌, ◌<◌, ◌&&◌, Bool, List, ap, length, not, refl, subst, sym, arith}
+use Rattle.std.proofs.Common.{◌≡◌, ◌∙◌, ◌&&◌, Bool, List, ap, length, not, refl, subst, arith}
 use Rattle.dg_model.specs.Marks.{is_marked}
 use Rattle.dg_model.specs.declared.shapes.Shape.{Shape}
 use Rattle.dg_io.specs.Reduced.{places_left}
