@@ -29,7 +29,7 @@ use Rattle.dg_model.specs.declared.members.MemberState.{MemberState}
 use Rattle.dg_model.specs.declared.members.MemberState.TheVariants.{Filling, Out}
 use Rattle.dg_model.specs.declared.phases.Phase.TheVariants.{Worn as WornPhase}
 use Rattle.dg_model.specs.declared.replies.Reply.{Reply}
-use Rattle.dg_model.specs.declared.replies.Reply.TheVariants.{Copied as CopiedReply, Failed as FailedReply, Lost as LostReply, NotFilling as NotFillingReply, Range as RangeReply}
+use Rattle.dg_model.specs.declared.replies.Reply.TheVariants.{Copied as CopiedReply, Failed as FailedReply, Lost as LostReply, NotFilling as NotFillingReply}
 use Rattle.dg_model.specs.declared.shapes.Shape.{Shape}
 use Rattle.dg_model.specs.declared.sites.Site.{Site}
 use Rattle.dg_model.specs.declared.wants.Want.TheVariants.{Stray}
@@ -786,15 +786,6 @@ module _ {S R : Type 0} (phase : phases.Ghosts S) (rack : Ghosts R) where
   rebuild_steps a m s n marks before after (Ok NotFilling) b well h = steps_not_filling a m s n marks before after b well h
   rebuild_steps a m s n marks before after (Ok Failed) b well h = steps_failed a m s n marks before after b well h
   rebuild_steps a m s n marks before after (Err e) b well h = tt
-
-  -- there is no such boundary
-  pub steps_range : (a : Volume S R) (t n : ℕ) → IsWell phase rack a → (t < a.in_use.boundaries → ⊥) → StepsSized phase phase rack a (Rebuild t n) RangeReply a
-  steps_range a t n well past = sized a a (Rebuild t n) RangeReply (λ origin rest V label size holds. (
-    state_of phase rack a rest V,
-    record { is = refl; label = label; holds = holds },
-    (past, refl),
-    refl,
-  ))
 
   -- it isn't in use
   pub steps_unused : (a : Volume S R) (t n : ℕ) → IsWell phase rack a → IsUnused a t → StepsSized phase phase rack a (Rebuild t n) (LostReply t) a

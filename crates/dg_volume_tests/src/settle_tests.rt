@@ -6,8 +6,8 @@ use crate::written::{image, rack, shape_of, up};
 use dg_io::{Failed, Rack};
 use dg_model::NoRoom;
 use dg_volume::{
-    AnyPhase, CatAnswer, DiffuseAnswer, FailAnswer, HomeAnswer, Hot, Listing, Loose, Phase,
-    TendRun, Unsettled, Volume,
+    AnyPhase, AuditAnswer, CatAnswer, DiffuseAnswer, FailAnswer, HomeAnswer, Hot, Listing, Loose,
+    Phase, TendRun, Unsettled, Volume,
 };
 use std::alloc::Global;
 use std::process::Abort;
@@ -82,6 +82,11 @@ fn settle_typed<R: Rack + Drop>(
         copy: Some(0),
     };
     assert_eq!(rt; settled.home(path), copied);
+    assert_eq!(rt; settled.live(), b"\x00\x01\x02\x03".as_slice());
+    let AuditAnswer::Audited(findings) = settled.audit(alloc)? else {
+        return Err("audit".into());
+    };
+    assert!(rt; findings.as_slice().is_empty());
     Ok(())
 }
 

@@ -6,7 +6,8 @@ use crate::written::{image, rack};
 use dg_io::Rack;
 use dg_model::Shape;
 use dg_volume::{
-    AnyPhase, InPhase, Loose, Phase, ReadAnswer, Volume, Who, WhoAnswer, WriteAnswer, Wrote,
+    AnyPhase, AuditAnswer, InPhase, Loose, Phase, ReadAnswer, Volume, Who, WhoAnswer, WriteAnswer,
+    Wrote,
 };
 use std::alloc::Global;
 use std::process::Abort;
@@ -112,6 +113,7 @@ fn wear<R: Rack + Drop>(rt: &impl Abort, alloc: Global, rack: R, image: &[u8]) -
     assert_eq!(rt; volume.next_pending(0), Some(28));
     assert_eq!(rt; volume.next_pending(29), Some(84));
     assert_eq!(rt; volume.next_pending(85), None);
+    assert!(rt; matches!(volume.audit(alloc)?, AuditAnswer::Unavailable));
     Ok(())
 }
 

@@ -1,5 +1,5 @@
 -- What the passes find is all that an audit tells.
-use Rattle.std.proofs.Common.{◌≡◌, ◌∙◌, ◌↔◌, ◌⊎◌, inl, inr, ℕ, zero, suc, List, [], ◌∷◌, Contains, Option, None, Some, Result, Ok, Err, IfNone, IfOk, IfSome, refl, sym, ap, subst, append-nil, arith}
+use Rattle.std.proofs.Common.{◌≡◌, ◌↔◌, ℕ, zero, suc, List, [], ◌∷◌, Contains, Option, None, Some, Result, Ok, Err, IfNone, IfOk, IfSome, refl, sym, ap, subst, append-nil, arith}
 use Rattle.ufs_model.specs.Audits.{AreAll, AreFindings, AreMalformations, IsNoted, IsNotedBy, IsUnclaimed, IsUnnamed}
 use Rattle.ufs_model.specs.Blocks.{Volume, bind}
 use Rattle.ufs_model.specs.Malformations.{Claims, IsBad, IsBadBy, IsMalformed}
@@ -12,9 +12,6 @@ use Rattle.ufs_model.specs.declared.geometries.Geometry.{Geometry}
 use Rattle.ufs_model.specs.declared.malformations.BadKind.{BadKind}
 use Rattle.ufs_model.specs.declared.malformations.BadKind.TheVariants.{Super, GroupMagic, GroupMap, WrongType, Filesize, Past, Wild, WildIn, Align, AlignIn, Run, Twice, PastIn, Free, Unused, Hole, Chunk, Entry, EntryType, Dots, Names, DirTwice, RootNamed}
 use Rattle.dg_claims.specs.Tables.{ClaimTable, HasClaims}
-use Rattle.ufs_pointer.specs.Fetches.{IsNeeded}
-use Rattle.ufs_check.specs.Needs.{IsNeededBy, IsNeededOn}
-use Rattle.ufs_check.specs.Needs.IsNeededOn.{by_geometry as needed_by, of_superblock as needed_super_block}
 use Rattle.ufs_check.specs.Surveys.{IsSurvey}
 use Rattle.ufs_check.specs.Verdicts.{AreAllFaults, IsOnView, all_kinds, found_in}
 use Rattle.ufs_check.specs.declared.faults.Faults.{Faults}
@@ -114,20 +111,6 @@ on_table still l n g table v size count stands claims is = (stands, claims, rw (
 
 pub structure_then : {k m : ℕ} (l n : ℕ) (v : Volume) (block : ℕ) → k ≡ l → m ≡ n → IsStructure k m v block → IsStructure l n v block
 structure_then l n v block size count is = rw (← size, ← count) is
-
--- ---- what wasn't gone
-
-super_read : (l n : ℕ) (v : Volume) (b : ℕ) → Contains ((superblock_of l n v).needs) b → IsNeeded (geometry_of l n) v b
-unfolding geometry_of bind
-super_read l n v b has = subst (λ (blocks : List ℕ). Contains blocks b) (sym (append-nil ((superblock_of l n v).needs))) has
-
-pub needed_cases : (l n : ℕ) (v : Volume) (g : Geometry) (b : ℕ) → (geometry_of l n v).value ≡ Ok g → IsNeededOn l n v b → IsNeeded (geometry_of l n) v b ⊎ IsNeededBy g v b
-needed_cases l n v g b is (needed_super_block has) = inl (super_read l n v b has)
-needed_cases l n v g b is (needed_by h has by) = let same : h ≡ g = (let both : Ok h ≡ Ok g = sym has ∙ is in cc) in inr (subst (λ k. IsNeededBy k v b) same by)
-
-pub needed_super : (l n : ℕ) (v : Volume) (bad : BadSuper) (b : ℕ) → (geometry_of l n v).value ≡ Err bad → IsNeededOn l n v b → IsNeeded (geometry_of l n) v b
-needed_super l n v bad b is (needed_super_block has) = super_read l n v b has
-needed_super l n v bad b is (needed_by h has by) = absurd (let both : Ok h ≡ Err bad = sym has ∙ is in cc)
 
 -- ---- answers
 

@@ -7,8 +7,6 @@ ghost use Rattle.ufs_model.specs.Blocks.{Volume};
 ghost use Rattle.ufs_model.specs.Geometries.{IsGeometryOn};
 ghost use Rattle.ufs_model.specs.Metadata.{IsStructure};
 ghost use Rattle.dg_claims.specs.Kept.{table_of};
-ghost use Rattle.dg_claims.specs.There.{HadKind, HadOn};
-ghost use Rattle.ufs_check.specs.Needs.{IsNeededBy, IsNeededOn};
 ghost use Rattle.ufs_check.specs.ViewWords.{FetchesOn, IsStructureOf, LosesOn};
 ghost use Rattle.ufs_audit.specs.Audits.{HasGeometry};
 ghost use Rattle.ufs_audit.specs.Losses.{HadOn};
@@ -70,7 +68,6 @@ fn audit_volume<V: View>(
     ensures levels { levels.new.fragment ≡ levels.old.fragment }
     ensures found { IfOk result (λ answer. IfSome answer (λ findings. V.tells view.new → (v : Volume) → HasGeometry V.View view.old g.now v
         → AreFindings (V.size view.old) (V.count view.old) v findings.bad.items findings.notes.unnamed.items findings.notes.unclaimed.items)) }
-    ensures there { IfOk result (λ answer. IfSome answer (λ findings. HadOn V.View view.old view.new (HasGeometry V.View view.old g.now) (IsNeededBy g.now))) }
     ensures gone { IfOk result (λ answer. IfNone answer (LosesOn V.View view.old view.new (HasGeometry V.View view.old g.now) (IsStructureOf V.View view.old))) }
     ensures fetched { FetchesOn V.View view.old view.new (HasGeometry V.View view.old g.now) (IsStructureOf V.View view.old) }
 {
@@ -102,7 +99,6 @@ fn find_all<V: View>(
     ensures levels { levels.new.fragment ≡ levels.old.fragment }
     ensures found { IfOk result (λ answer. IfSome answer (λ findings. V.tells view.new → (v : Volume) → V.stands_for view.old v
         → AreFindings (V.size view.old) (V.count view.old) v findings.bad.items findings.notes.unnamed.items findings.notes.unclaimed.items)) }
-    ensures there { IfOk result (λ answer. IfSome answer (λ findings. HadKind V.View view.old view.new (IsNeededOn (V.size view.old) (V.count view.old)))) }
     ensures gone { IfOk result (λ answer. IfNone answer (LosesKind V.View view.old view.new (IsStructure (V.size view.old) (V.count view.old)))) }
     ensures fetched { FetchesKind V.View view.old view.new (IsStructure (V.size view.old) (V.count view.old)) }
 {

@@ -6,7 +6,6 @@ ghost use Rattle.ufs_audit.specs.Holders.{AreMarks};
 ghost use Rattle.ufs_audit.specs.Structures.{IsDirectoryOf};
 ghost use Rattle.ufs_model.specs.Blocks.{Volume};
 ghost use Rattle.ufs_model.specs.Geometries.{IsGeometryOn};
-ghost use Rattle.ufs_model.specs.Inodes.{inode_of, kind_of};
 ghost use Rattle.ufs_model.specs.Metadata.{IsMetadataBy};
 ghost use Rattle.ufs_pointer.specs.ViewWords.{FetchesKind, LosesKind};
 ghost use Rattle.ufs_audit.specs.Structures.{is_directory_in};

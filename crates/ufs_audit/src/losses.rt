@@ -1,9 +1,8 @@
 // Blocks with a volume's structure that are gone.
-ghost use Rattle.std.specs.Prelude.{◌≡◌, ◌≤◌, ◌<◌, ℕ, Some, true, false, IfOk};
+ghost use Rattle.std.specs.Prelude.{◌≡◌, ◌≤◌, ◌<◌, Some, true, false, IfOk};
 ghost use Rattle.std.specs.Bool.{Decides};
 ghost use Rattle.dg_claims.specs.Kept.{table_of};
 ghost use Rattle.dg_io.specs.ViewWords.{Keeps};
-ghost use Rattle.dg_model.specs.Marks.{is_marked};
 ghost use Rattle.ufs_audit.specs.Audits.{HasGeometry};
 ghost use Rattle.ufs_audit.specs.Losses.{HadOn, IsBetween, IsClaimPart, IsGroupBlock, IsIndirect, IsInodeBlock, IsPart, TellsGone};
 ghost use Rattle.ufs_audit.specs.Structures.{IsBehindSuper};

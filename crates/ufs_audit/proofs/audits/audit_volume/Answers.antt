@@ -5,8 +5,6 @@ use Rattle.ufs_model.specs.Metadata.{IsMetadata, IsStructure}
 use Rattle.ufs_model.specs.Metadata.IsStructure.{of_metadata}
 use Rattle.dg_claims.specs.Kept.{table_of}
 use Rattle.dg_claims.specs.Tables.{accepted}
-use Rattle.dg_claims.specs.ThereLaws.{there_along}
-use Rattle.ufs_check.specs.Needs.{IsNeededBy}
 use Rattle.ufs_pointer.specs.KindLaws.{loses_along, only_along, only_both}
 use Rattle.ufs_audit.specs.Audits.{HasGeometry}
 use Rattle.ufs_audit.proofs.AuditLaws.{none_never, on_table, some_along, structure_then, survey_findings}
@@ -159,27 +157,3 @@ returns-in_err-bad-clause-keeps g c =
 pub returns-clause-keeps : goal.returns-clause-keeps
 returns-clause-keeps g c =
     keeps_both g.met.V.View.further c.args.view.now c.scan.new.view c.survey.new.view c.scan.ensures.keeps c.survey.ensures.keeps
-
-pub returns-then-not-is_of-clause-there : goal.returns-then-not-is_of-clause-there
-returns-then-not-is_of-clause-there g c =
-    some_along c.refused.result _ _ (λ findings refusal. record {
-      each = λ told v has b of_kind.
-          let claims = rw c.in-Some.is at c.in_ok-claims.ensures.claims in
-          let of = claims told v (has.0) in
-          let table : (table_of c.in-Some.claims).geometry ≡ Some c.args.g.now = of.geometry ∙ ap accepted (has.1) in
-          absurd (let no : true ≡ false = sym (c.is_of.ensures.1 table) ∙ c.if-not-is_of.true in cc);
-    }) c.refused.ensures.found
-
-pub returns-clause-there : goal.returns-clause-there
-returns-clause-there g c =
-    let l = g.V.View.size c.args.view.now in
-    let n = g.V.View.count c.args.view.now in
-    let gg = c.args.g.now in
-    let first = c.scan.ensures.keeps in
-    let second = c.survey.ensures.keeps in
-    let table = table_of c.in-Some.claims in
-    let claims = rw c.in-Some.is at c.in_ok-claims.ensures.claims in
-    let of = c.is_of.ensures.0 c.if-not-is_of.false in
-    let there = rw c.in-Some-2.is at c.in_ok-found.ensures.there in
-    there_along {other = IsNeededBy gg} first.stays (λ h. h)
-    (λ told v has. ((first.stands v (has.0), c.tables_of_volumes.ensures.claims l n v table gg (claims (second.told told) v (has.0)) of), λ b h. h)) there

@@ -1,12 +1,8 @@
 use Rattle.std.proofs.Common.{refl, sym}
 use Rattle.dg_io.specs.ViewLaws.{keeps_both}
 use Rattle.ufs_model.specs.Metadata.{IsStructure}
-use Rattle.ufs_model.specs.Superblocks.{geometry_of}
-use Rattle.ufs_pointer.specs.Fetches.{IsNeeded}
 use Rattle.ufs_pointer.specs.KindLaws.{loses_along, only_both, only_of}
-use Rattle.dg_claims.specs.ThereLaws.{there_along, there_both, there_read}
-use Rattle.ufs_check.specs.Needs.{IsNeededBy}
-use Rattle.ufs_audit.proofs.AuditLaws.{needed_cases, needed_super, none_along, none_never, refused_findings, some_along, structure_then, super_structure}
+use Rattle.ufs_audit.proofs.AuditLaws.{none_along, none_never, refused_findings, some_along, structure_then, super_structure}
 use Rattle.ufs_audit.proofs.audits.find_all.Goals as goal
 
 pub returns-in-None-clause-gone : goal.returns-in-None-clause-gone
@@ -74,26 +70,3 @@ returns-in-Some-Ok-clause-fetched g c =
 pub returns-in-Some-Ok-clause-keeps : goal.returns-in-Some-Ok-clause-keeps
 returns-in-Some-Ok-clause-keeps g c =
     keeps_both g.met.V.View.further c.args.view.now c.read_geometry.new.view c.audit_volume.new.view c.read_geometry.ensures.keeps c.audit_volume.ensures.keeps
-
-pub returns-in-Some-Err-clause-there : goal.returns-in-Some-Err-clause-there
-returns-in-Some-Err-clause-there g c =
-    let l = g.V.View.size c.args.view.now in
-    let n = g.V.View.count c.args.view.now in
-    let reads = rw c.in-Some-Err.field-0-is at c.in-Some-Err.ensures.rule in
-    some_along c.refused.result _ _ (λ findings refusal.
-    there_along {other = IsNeeded (geometry_of l n)} (λ b h. h) (λ h. h)
-    (λ told v stands. (stands, λ b of. needed_super l n v c.in-Some-Err.bad b (sym ((reads.rule told v stands).answer)) of)) (there_read _ reads)) c.refused.ensures.found
-
-pub returns-in-Some-Ok-clause-there : goal.returns-in-Some-Ok-clause-there
-returns-in-Some-Ok-clause-there g c =
-    let l = g.V.View.size c.args.view.now in
-    let n = g.V.View.count c.args.view.now in
-    let gg = c.in-Some-Ok.g in
-    let first = c.read_geometry.ensures.keeps in
-    let second = c.audit_volume.ensures.keeps in
-    let reads = rw c.in-Some-Ok.field-0-is at c.in-Some-Ok.ensures.rule in
-    some_along c.audit_volume.result _ _ (λ findings there.
-    there_both (λ told v stands b of. needed_cases l n v gg b (sym ((reads.rule (second.told told) v stands).answer)) of)
-    (there_along {other = IsNeeded (geometry_of l n)} (λ b h. h) second.told (λ told v stands. (stands, λ b h. h)) (there_read _ reads))
-    (there_along {other = IsNeededBy gg} first.stays (λ h. h)
-    (λ told v stands. ((first.stands v stands, rw (first.bytes, first.blocks) (sym ((reads.rule (second.told told) v stands).answer))), λ b h. h)) there)) c.audit_volume.ensures.there

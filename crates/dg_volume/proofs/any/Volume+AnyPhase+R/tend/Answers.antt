@@ -16,7 +16,7 @@ returns-in-Some-clause-steps g c =
 
 pub returns-clause-steps : goal.returns-clause-steps
 returns-clause-steps g c =
-    subst (λ (r : TendRun). StepsTo any_phase any_phase g.R.Rack c.args.self.now (Tend c.args.limit) (tend_reply r) c.tend_loose-run.new.self) (sym c.tended.ensures) c.in_ok-run.ensures.steps
+    subst (λ (r : TendRun). StepsTo any_phase any_phase g.R.Rack c.args.self.now (Tend c.args.limit) (tend_reply r) c.tend_loose.new.self) (sym c.tended.ensures) c.in_ok-run.ensures.steps
 
 pub returns-in-Some-clause-leaves : goal.returns-in-Some-clause-leaves
 returns-in-Some-clause-leaves g c = leaves_none any_phase g.R.Rack c.args.self.now c.requires.well

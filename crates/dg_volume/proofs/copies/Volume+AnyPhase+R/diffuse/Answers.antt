@@ -14,4 +14,4 @@ returns-in-Worn-clause-leaves g c = leaves_none any_phase g.R.Rack c.args.self.n
 
 pub returns-in-Settled-clause-steps : goal.returns-in-Settled-clause-steps
 returns-in-Settled-clause-steps g c =
-    subst (λ (r : DiffuseAnswer). StepsHot any_phase any_phase g.R.Rack c.args.hot.now c.args.self.now Diffuse (diffuse_reply r) c.spread-answer.new.self) (sym c.diffused.ensures) c.in_ok-answer.ensures.steps
+    subst (λ (r : DiffuseAnswer). StepsHot any_phase any_phase g.R.Rack c.args.hot.now c.args.self.now Diffuse (diffuse_reply r) c.spread.new.self) (sym c.diffused.ensures) c.in_ok-answer.ensures.steps

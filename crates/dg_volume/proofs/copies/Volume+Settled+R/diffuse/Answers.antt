@@ -7,4 +7,4 @@ use Rattle.dg_volume.proofs.copies.Volume+Settled+R.diffuse.Goals as goal
 
 pub returns-clause-steps : goal.returns-clause-steps
 returns-clause-steps g c =
-    subst (λ (r : DiffuseAnswer). StepsHot settled_phase settled_phase g.R.Rack c.args.hot.now c.args.self.now Diffuse (diffuse_reply r) c.spread-answer.new.self) (sym c.diffused.ensures) c.in_ok-answer.ensures.steps
+    subst (λ (r : DiffuseAnswer). StepsHot settled_phase settled_phase g.R.Rack c.args.hot.now c.args.self.now Diffuse (diffuse_reply r) c.spread.new.self) (sym c.diffused.ensures) c.in_ok-answer.ensures.steps

@@ -7,4 +7,4 @@ use Rattle.dg_volume.proofs.settles.Volume+Loose+R.tend.Goals as goal
 
 pub returns-clause-steps : goal.returns-clause-steps
 returns-clause-steps g c =
-    subst (λ (r : TendRun). StepsTo loose_phase loose_phase g.R.Rack c.args.self.now (Tend c.args.limit) (tend_reply r) c.tend_loose-run.new.self) (sym c.tended.ensures) c.in_ok-run.ensures.steps
+    subst (λ (r : TendRun). StepsTo loose_phase loose_phase g.R.Rack c.args.self.now (Tend c.args.limit) (tend_reply r) c.tend_loose.new.self) (sym c.tended.ensures) c.in_ok-run.ensures.steps

@@ -11,7 +11,7 @@ returns-clause-steps g c =
     let found = rw c.in-Some.is at c.in_ok-found.ensures.found in
     let there = rw c.in-Some.is at c.in_ok-found.ensures.there in
     audited g.S.InPhase g.R.Rack a (record a { store = c.audit.new.view; levels = c.audit.new.levels }) c.in_ok-lines.lines
-    (record { beside = record { phase_is = refl; pending = refl; homes = refl; copies = refl }; levels = c.audit.ensures.levels; sound = keeps.sound; reads = keeps.goes; stands = keeps.stands; labeled = c.requires.well.labeled; label_is = refl })
+    (record { beside = record { phase_is = refl; pending = refl; homes = refl; copies = refl; in_use = refl }; levels = c.audit.ensures.levels; sound = keeps.sound; reads = keeps.goes; stands = keeps.stands; labeled = c.requires.well.labeled; label_is = refl })
     c.requires.well.array.table
     (record {
       there = λ told v stands block low is. there told v stands block low is;
@@ -24,7 +24,7 @@ returns-in_default-clause-steps g c =
     let keeps = c.audit.ensures.keeps in
     let gone = rw c.in_default.is at c.in_ok-found.ensures.gone in
     unaudited g.S.InPhase g.R.Rack a (record a { store = c.audit.new.view; levels = c.audit.new.levels })
-    (record { beside = record { phase_is = refl; pending = refl; homes = refl; copies = refl }; levels = c.audit.ensures.levels; sound = keeps.sound; reads = keeps.goes; stands = keeps.stands; labeled = c.requires.well.labeled; label_is = refl })
+    (record { beside = record { phase_is = refl; pending = refl; homes = refl; copies = refl; in_use = refl }; levels = c.audit.ensures.levels; sound = keeps.sound; reads = keeps.goes; stands = keeps.stands; labeled = c.requires.well.labeled; label_is = refl })
     gone
 
 pub returns-in_err-found-clause-leaves : goal.returns-in_err-found-clause-leaves
@@ -32,25 +32,25 @@ returns-in_err-found-clause-leaves g c =
     let a = c.args.self.now in
     let keeps = c.audit.ensures.keeps in
     reads_leave g.S.InPhase g.R.Rack a (record a { store = c.audit.new.view; levels = c.audit.new.levels }) c.requires.well
-    (record { beside = record { phase_is = refl; pending = refl; homes = refl; copies = refl }; levels = c.audit.ensures.levels; sound = keeps.sound; reads = keeps.goes; stands = keeps.stands; labeled = c.requires.well.labeled; label_is = refl })
+    (record { beside = record { phase_is = refl; pending = refl; homes = refl; copies = refl; in_use = refl }; levels = c.audit.ensures.levels; sound = keeps.sound; reads = keeps.goes; stands = keeps.stands; labeled = c.requires.well.labeled; label_is = refl })
 
 pub returns-in_default-clause-leaves : goal.returns-in_default-clause-leaves
 returns-in_default-clause-leaves g c =
     let a = c.args.self.now in
     let keeps = c.audit.ensures.keeps in
     reads_leave g.S.InPhase g.R.Rack a (record a { store = c.audit.new.view; levels = c.audit.new.levels }) c.requires.well
-    (record { beside = record { phase_is = refl; pending = refl; homes = refl; copies = refl }; levels = c.audit.ensures.levels; sound = keeps.sound; reads = keeps.goes; stands = keeps.stands; labeled = c.requires.well.labeled; label_is = refl })
+    (record { beside = record { phase_is = refl; pending = refl; homes = refl; copies = refl; in_use = refl }; levels = c.audit.ensures.levels; sound = keeps.sound; reads = keeps.goes; stands = keeps.stands; labeled = c.requires.well.labeled; label_is = refl })
 
 pub returns-in_err-lines-clause-leaves : goal.returns-in_err-lines-clause-leaves
 returns-in_err-lines-clause-leaves g c =
     let a = c.args.self.now in
     let keeps = c.audit.ensures.keeps in
     reads_leave g.S.InPhase g.R.Rack a (record a { store = c.audit.new.view; levels = c.audit.new.levels }) c.requires.well
-    (record { beside = record { phase_is = refl; pending = refl; homes = refl; copies = refl }; levels = c.audit.ensures.levels; sound = keeps.sound; reads = keeps.goes; stands = keeps.stands; labeled = c.requires.well.labeled; label_is = refl })
+    (record { beside = record { phase_is = refl; pending = refl; homes = refl; copies = refl; in_use = refl }; levels = c.audit.ensures.levels; sound = keeps.sound; reads = keeps.goes; stands = keeps.stands; labeled = c.requires.well.labeled; label_is = refl })
 
 pub returns-clause-leaves : goal.returns-clause-leaves
 returns-clause-leaves g c =
     let a = c.args.self.now in
     let keeps = c.audit.ensures.keeps in
     reads_leave g.S.InPhase g.R.Rack a (record a { store = c.audit.new.view; levels = c.audit.new.levels }) c.requires.well
-    (record { beside = record { phase_is = refl; pending = refl; homes = refl; copies = refl }; levels = c.audit.ensures.levels; sound = keeps.sound; reads = keeps.goes; stands = keeps.stands; labeled = c.requires.well.labeled; label_is = refl })
+    (record { beside = record { phase_is = refl; pending = refl; homes = refl; copies = refl; in_use = refl }; levels = c.audit.ensures.levels; sound = keeps.sound; reads = keeps.goes; stands = keeps.stands; labeled = c.requires.well.labeled; label_is = refl })

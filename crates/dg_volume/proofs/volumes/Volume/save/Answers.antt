@@ -10,19 +10,19 @@ use Rattle.dg_volume.proofs.volumes.Volume.save.Goals as goal
 pub returns-clause-leaves : goal.returns-clause-leaves
 returns-clause-leaves g c =
     let k = c.in_ok-answer.ensures in
-    save_leaves g.S.InPhase g.R.Rack c.args.self.now c.save-answer.new.store c.save-answer.new.label k.array c.requires.well k.labeled
+    save_leaves g.S.InPhase g.R.Rack c.args.self.now c.save.new.store c.save.new.label k.array c.requires.well k.labeled
 
 pub returns-in_err-answer-clause-leaves : goal.returns-in_err-answer-clause-leaves
 returns-in_err-answer-clause-leaves g c =
     let k = c.in_err-answer.ensures in
-    save_leaves g.S.InPhase g.R.Rack c.args.self.now c.save-answer.new.store c.save-answer.new.label k.array c.requires.well k.labeled
+    save_leaves g.S.InPhase g.R.Rack c.args.self.now c.save.new.store c.save.new.label k.array c.requires.well k.labeled
 
 pub returns-clause-steps : goal.returns-clause-steps
 returns-clause-steps g c =
     let a = c.args.self.now in
     let k = c.in_ok-answer.ensures in
-    subst (λ (r : SaveAnswer). StepsHot g.S.InPhase g.S.InPhase g.R.Rack c.args.hot.now a Save (save_reply r) (record a { store = c.save-answer.new.store; label = c.save-answer.new.label })) (sym c.saved.ensures)
-    (save_steps g.S.InPhase g.R.Rack a c.save-answer.new.store c.save-answer.new.label k.array c.args.hot.now c.deref.result.now c.in_ok-answer.answer
+    subst (λ (r : SaveAnswer). StepsHot g.S.InPhase g.S.InPhase g.R.Rack c.args.hot.now a Save (save_reply r) (record a { store = c.save.new.store; label = c.save.new.label })) (sym c.saved.ensures)
+    (save_steps g.S.InPhase g.R.Rack a c.save.new.store c.save.new.label k.array c.args.hot.now c.deref.result.now c.in_ok-answer.answer
     c.requires.well (c.deref.ensures.value ∙ c.in_ok-body.ensures.says) c.in_ok-body.ensures.form k.answer)
 
 pub returns-in_err-body-clause-leaves : goal.returns-in_err-body-clause-leaves
