@@ -13,6 +13,8 @@ mod HomeLaws
 mod LabelLaws
 mod ListedLaws
 mod LooseLaws
+mod LostLaws
+mod LostSteps
 mod MoveSteps
 mod OpenLaws
 mod OpenSteps
