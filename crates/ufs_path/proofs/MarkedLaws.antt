@@ -98,6 +98,7 @@ module _ {O : Type 0} (took took_part : O → List PathOf → O → Type 0) (fau
   pub record Wanted : Type 0 where
     pub part : HandsPaths took out new.out.now (ReadsMarked reads marks)
     pub still : faults new.out.now ≡ faults out
+    pub same : new.out.ghost_name ≡ old.out.ghost_name
 
   not_wanted : {P : Type 0} → new.wants ≡ 0 → 0 < new.wants → P
   not_wanted none some = let no : ⊥ = omega (arith, none, some) in absurd no
@@ -113,17 +114,30 @@ module _ {O : Type 0} (took took_part : O → List PathOf → O → Type 0) (fau
   marked_wanted SinkFault rule some =
       elim ((rule.1).broke [] begun.names_are) [
         | inl failed ↦ not_wanted (failed.wants ∙ begun.wants) some
-        | inr wanted ↦ record { part = front_of (rule.0) wanted rule.2; still = wanted.kept ∙ ap faults begun.out_is }
+        | inr wanted ↦ record { part = front_of (rule.0) wanted rule.2; still = wanted.kept ∙ ap faults begun.out_is; same = (rule.1).same }
       ]
 
   -- the listing wanted memory
   pub marked_unread : HandsSome (TookMarked took took_part faults) old new reads → Wanted
-  marked_unread (inl same) = record { part = inl (stays_out same); still = ap faults (stays_out same) }
+  marked_unread (inl same) = record { part = inl (stays_out same); still = ap faults (stays_out same); same = ap (λ s. s.out.ghost_name) same }
   marked_unread (inr (front, rest, all, read)) =
       let first = started front all in record {
         part = inr (marked_among marks front, marked_from marks (names_after [] front) rest, first.lines, reads_front front rest read);
         still = first.still;
+        same = all.same;
       }
+
+  -- ---- the receiver is the one that was lent
+
+  pub marked_same : (answer : CatAnswer) → Listing answer → new.out.ghost_name ≡ old.out.ghost_name
+  marked_same (Given n) rule = (rule.2).same
+  marked_same NotFound rule = ap (λ s. s.out.ghost_name) rule.0
+  marked_same NotDirectory rule = ap (λ s. s.out.ghost_name) rule.0
+  marked_same (Bad bad) rule = ap (λ s. s.out.ghost_name) rule.0
+  marked_same Unavailable rule = ap (λ s. s.out.ghost_name) rule.0
+  marked_same NotRegular rule = ap (λ s. s.out.ghost_name) rule.0
+  marked_same (Cut n) rule = (rule.3).same
+  marked_same SinkFault rule = (rule.1).same
 
   -- ---- counts of faults, and what wasn't answered
 

@@ -7,7 +7,7 @@ ghost use Rattle.ufs_model.specs.Paths.{is_regular};
 ghost use Rattle.ufs_model.specs.Trees.{tree_of};
 ghost use Rattle.ufs_path.specs.Answers.{IsAnswer};
 ghost use Rattle.ufs_path.specs.Consults.{Consults, StaysUnlessFailed};
-ghost use Rattle.ufs_path.specs.PathLists.{HandsPaths, ReadsMarked, is_marked_file, told_of};
+ghost use Rattle.ufs_path.specs.PathLists.{HandsPaths, IsBegun, ReadsMarked, is_marked_file, told_of};
 ghost use Rattle.ufs_path.specs.Trees.{IsUnansweredIn};
 
 use crate::faults::CatAnswer;
@@ -152,6 +152,35 @@ fn told_of(given: u32, answer: CatAnswer) -> CatAnswer
     }
 }
 
+/// Hands on the paths of the marked files of the volume on a view, before the first entry.
+fn list_into<V: View, O: PathList>(
+    alloc: Global,
+    view: &mut V,
+    levels: &mut Levels,
+    paths: &mut MarkedPaths<'_, O>,
+) -> Result<CatAnswer, NoMemory>
+    requires sound { V.is_sound view.old }
+    requires levels { levels.old.fragment ≡ V.size view.old }
+    requires begun { IsBegun paths.old paths.old.marks.now paths.old.out.now }
+    ensures keeps { Keeps V.View view.old view.new }
+    ensures levels { levels.new.fragment ≡ levels.old.fragment }
+    ensures same { paths.new.out.ghost_name ≡ paths.old.out.ghost_name }
+    ensures later { O.faults paths.old.out.now ≤ O.faults paths.new.out.now }
+    ensures rule { IfOk result (IsAnswer O.took O.took_part O.faults paths.old.out.now paths.new.out.now
+        (ReadsMarked (Reads V.View view.old view.new (tree_of (V.size view.old) (V.count view.old))) paths.old.marks.now)) }
+    ensures part { OnErr result (HandsPaths O.took paths.old.out.now paths.new.out.now
+        (ReadsMarked (Reads V.View view.old view.new (tree_of (V.size view.old) (V.count view.old))) paths.old.marks.now)) }
+    ensures err_faults { OnErr result (O.faults paths.new.out.now ≡ O.faults paths.old.out.now) }
+    ensures consults { Consults V.View view.old view.new (tree_of (V.size view.old) (V.count view.old)) (IsUnansweredIn result) }
+    ensures stays { IfOk result (λ answer. StaysUnlessFailed answer (O.faults paths.old.out.now) (O.faults paths.new.out.now)) }
+{
+    let answer = tree(alloc, view, levels, paths)?;
+    if paths.wants > 0 {
+        return Err(NoMemory);
+    }
+    Ok(told_of(paths.given, answer))
+}
+
 /// Hands on the paths of the regular files on a view whose inodes are marked, in the order of its [`tree`], with their inodes. Mark i is for
 /// inode i; an inode without a mark isn't marked. A file with several names has a path for each. All entries are consulted before the first
 /// path is handed on. Memory holds what that of the listing does, and one path. Where it is wanting, some first paths may have been handed on.
@@ -176,9 +205,5 @@ pub fn list_marked<V: View, O: PathList>(
     ensures stays { IfOk result (λ answer. StaysUnlessFailed answer (O.faults out.old) (O.faults out.new)) }
 {
     let mut paths = MarkedPaths::new(alloc, marks, &mut *out);
-    let answer = tree(alloc, view, levels, &mut paths)?;
-    if paths.wants > 0 {
-        return Err(NoMemory);
-    }
-    Ok(told_of(paths.given, answer))
+    list_into(alloc, view, levels, &mut paths)
 }

@@ -1,4 +1,4 @@
-use Rattle.std.proofs.Common.{◌≡◌, ◌↔◌, Bool, List, ℕ, subst, sym, true, rules}
+use Rattle.std.proofs.Common.{◌≡◌, ◌∙◌, ◌↔◌, arith, Bool, List, ℕ, subst, sym, true, rules}
 use Rattle.dg_model.specs.Marks.{is_marked}
 use Rattle.dg_volume.proofs.LostLaws.{below_next, below_none}
 use Rattle.dg_volume.specs.LostFiles.{LostBelow}
@@ -15,4 +15,5 @@ loop-block-preserved c =
 
 pub returns : goal.returns
 returns c =
-    subst (λ (n : ℕ). (i : ℕ) → (is_marked c.loop-block.marks.items i ≡ true) ↔ LostBelow c.args.inference.now c.args.cut.now n i) (sym c.requires) c.loop-block.invariant
+    let end : c.loop-block.block ≡ c.args.count = search (rules, arith) in
+    subst (λ (n : ℕ). (i : ℕ) → (is_marked c.loop-block.marks.items i ≡ true) ↔ LostBelow c.args.inference.now c.args.cut.now n i) (end ∙ sym c.requires) c.loop-block.invariant
