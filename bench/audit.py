@@ -23,12 +23,25 @@ def seconds(program, image, task, times, wanted):
     return (often.seconds - once.seconds) / times, often.peak
 
 
+TOLD = r"(\d+) malformations, 0 unnamed, (\d+) unclaimed\n"
+
+
+def told(program, image):
+    """How many malformations an audit finds, and how many fragments belong to nothing."""
+    return map(int, run(program, ("audit", 1), TOLD, image).found.groups())
+
+
 def ratio(program, sound, image, faults, times):
     """What an audit of an image takes beside a scan and a check of the sound one: the median of the ratios by turns, and the seconds and the peak."""
+    none, loose = told(program, sound)
+    bad, left = told(program, image)
+    # A used fragment that nothing claims is no fault once it is marked as free.
+    if none or bad + loose - left != faults:
+        sys.exit(f"{faults} faults were put in, and {bad} malformations found, with {left} of {loose} fragments that belong to nothing")
     found = []
     for _ in range(ROUNDS):
         fresh, low = seconds(program, sound, "fresh", times, r"Sound\n")
-        audit, high = seconds(program, image, "audit", times, rf"{faults} malformations, 0 unnamed, 0 unclaimed\n")
+        audit, high = seconds(program, image, "audit", times, rf"{bad} malformations, 0 unnamed, {left} unclaimed\n")
         found.append((audit / fresh, audit, high - low))
     return (statistics.median(it) for it in zip(*found))
 

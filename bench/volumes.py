@@ -125,7 +125,7 @@ class Volume:
         left = most
         for c in range(self.groups):
             start = self.group_size * c + max(self.data_at, min(self.group_size, self.free - self.group_size * c))
-            taken = min(left, start - self.group_size * c - self.data_at - FRAGMENTS)
+            taken = max(0, min(left, start - self.group_size * c - self.data_at - FRAGMENTS))
             block = self.group(c)
             at = struct.unpack_from("<I", block, 96)[0]
             for number in range(start - taken, start):
