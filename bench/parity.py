@@ -3,7 +3,7 @@
 Writes of the blocks of a 64 MiB array over groups of 3, 5 and 8 disks beside those of one over pairs; reads of a member of 64 MiB without a disk beside those
 with all; and a disk of its group that comes back beside a plain copy of as many bytes. Each is done by turns, so many rounds; what preparing it takes is
 measured by a run that does it no times, and taken off. Printed are the medians of the rounds, in the processor's seconds, and the bytes that were moved. The
-exit status is 1 where reads without a disk take more than n times as long, or a disk comes back at less than 0.4 of the speed of a copy.
+exit status is 1 where reads without a disk take more than n times as long, or a disk comes back at less than 0.4 of the speed of a copy, by all bytes that are moved.
 """
 import re
 import statistics
@@ -75,7 +75,7 @@ def reads(program):
 
 
 def mends(program):
-    """Whether a disk comes back at so much of the speed of a copy at least."""
+    """Whether a disk comes back at so much of the speed of a copy at least, by the bytes that are moved: all other disks are read for it."""
     print("a disk that comes back: disks, MiB a second, those of a plain copy, the ratio; bytes moved a second beside those of a copy")
     is_within, (size, bits, times) = True, MENDED
     for width in WIDTHS:
@@ -86,7 +86,7 @@ def mends(program):
         moved = [(one[2] + one[3]) / taken_by for one, taken_by in zip(did, taken)]
         ratio = speeds[0] / speeds[1]
         print(f"  {width}: {speeds[0]:.0f}, {speeds[1]:.0f}, {ratio:.2f}; {moved[0] / moved[1]:.2f}", flush=True)
-        is_within = is_within and ratio >= LEAST
+        is_within = is_within and moved[0] / moved[1] >= LEAST
     return is_within
 
 
