@@ -18,6 +18,7 @@ use std::alloc::Global;
 struct Line {
     bytes: Vec<u8>,
     faults: u64,
+    calls: u64,
 }
 
 impl Sink for Line {
@@ -27,7 +28,12 @@ impl Sink for Line {
 
     ghost faults = { λ s. s.faults };
 
+    ghost calls = { λ s. s.calls };
+
+    ghost whole = { λ _. Unit {0} };
+
     fn write(&mut self, piece: &[u8]) -> Result<usize, Failed> {
+        self.calls = self.calls.saturating_add(1);
         if self.bytes.extend_from_slice(piece).is_err() {
             self.faults = self.faults.saturating_add(1);
             return Err(Failed);
@@ -87,6 +93,7 @@ fn push_reply(alloc: Global, text: &mut Vec<u8>, reply: &Reply) -> Result<(), No
     let mut line = Line {
         bytes: Vec::new(alloc),
         faults: 0,
+        calls: 0,
     };
     match write_reply(&mut line, reply) {
         Ok(()) => push(text, &line.bytes),

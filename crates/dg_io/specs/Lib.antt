@@ -16,6 +16,7 @@ pub mod RackCalls
 pub mod RackWords
 pub mod Racks
 pub mod Reduced
+pub mod SinkCalls
 pub mod SinkPieces
 pub mod Sinks
 pub mod Sources

@@ -30,6 +30,9 @@ IsListed sink = Contains (sink_fails sink) (sink_calls sink)
 abbrev pub IsPast : MemSink → ℕ → Type 0
 IsPast sink n = room_in sink < length (taken_in sink) + n
 
+abbrev pub sure_calls : SureSink → ℕ
+sure_calls sink = sink.calls
+
 -- the bytes taken, until there was no room
 abbrev pub sure_taken : SureSink → Option (List ℕ)
 sure_taken sink = if sink.told then Some sink.bytes.items else None

@@ -23,5 +23,8 @@ source_fails source = source.fails.items
 abbrev pub IsListed : MemSource → Type 0
 IsListed source = Contains (source_fails source) (source_calls source)
 
+abbrev pub sure_calls : SureSource → ℕ
+sure_calls source = source.calls
+
 abbrev pub sure_left : SureSource → List ℕ
 sure_left source = drop source.at source.bytes.items

@@ -10,6 +10,8 @@ impl<S: Source> Source for &mut S {
 
     ghost faults = { λ s. S.faults s.now };
 
+    ghost calls = { λ s. S.calls s.now };
+
     fn read(&mut self, buf: &mut [u8]) -> Result<usize, Failed> {
         (**self).read(buf)
     }
@@ -19,6 +21,10 @@ impl<K: Sink> Sink for &mut K {
     ghost taken = { λ s. K.taken s.now };
 
     ghost faults = { λ s. K.faults s.now };
+
+    ghost calls = { λ s. K.calls s.now };
+
+    ghost whole = { λ s. K.whole s.now };
 
     fn write(&mut self, piece: &[u8]) -> Result<usize, Failed> {
         (**self).write(piece)

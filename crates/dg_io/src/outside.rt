@@ -9,6 +9,7 @@ ghost use Rattle.dg_io.specs.Faults.{HasCause};
 ghost use Rattle.dg_io.specs.Kept.{Kept, KeepsRest};
 ghost use Rattle.dg_io.specs.Made.{AfterCalls};
 ghost use Rattle.dg_io.specs.RackCalls.{RackCall};
+ghost use Rattle.dg_io.specs.SinkCalls.{LeavesSink};
 
 use dg_model::Failed;
 
@@ -20,6 +21,9 @@ pub trait Source {
     /// How often it has failed.
     ghost faults: { Self → ℕ };
 
+    /// How often it was called.
+    ghost calls: { Self → ℕ };
+
     /// Fills the front of the buffer with the next bytes, and answers how many. `Ok(0)` on a nonempty buffer is the end.
     /// A failed read takes nothing.
     fn read(&mut self, buf: &mut [u8]) -> Result<usize, Failed>
@@ -27,7 +31,8 @@ pub trait Source {
         ensures bytes { IfOk result (λ n. Told (Gave (take n buf.new)) (left self.old) (left self.new)) }
         ensures end { IfOk result (λ n. n ≡ 0 → 0 < length buf.new → Told (λ before after. before ≡ []) (left self.old) (left self.new)) }
         ensures err { OnErr result (Told IsSame (left self.old) (left self.new)) }
-        ensures cause { HasCause (faults self.old) (faults self.new) result };
+        ensures cause { HasCause (faults self.old) (faults self.new) result }
+        ensures counted { RoseByOne (calls self.old) (calls self.new) };
 }
 
 /// Bytes that go out.
@@ -38,6 +43,12 @@ pub trait Sink {
     /// How often it has failed.
     ghost faults: { Self → ℕ };
 
+    /// How often it was called.
+    ghost calls: { Self → ℕ };
+
+    /// That it takes each piece whole, where it doesn't fail.
+    ghost whole: { Self → Type 0 };
+
     /// Takes some bytes of the front of the piece, at least one where there is one, and answers how many. A failed write
     /// takes nothing.
     fn write(&mut self, piece: &[u8]) -> Result<usize, Failed>
@@ -45,7 +56,10 @@ pub trait Sink {
         ensures some { IfOk result (λ n. 0 < length piece.now → 0 < n) }
         ensures bytes { IfOk result (λ n. Told (Took (take n piece.now)) (taken self.old) (taken self.new)) }
         ensures err { OnErr result (Told IsSame (taken self.old) (taken self.new)) }
-        ensures cause { HasCause (faults self.old) (faults self.new) result };
+        ensures cause { HasCause (faults self.old) (faults self.new) result }
+        ensures counted { RoseByOne (calls self.old) (calls self.new) }
+        ensures takes_whole { IfOk result (λ n. whole self.old → n ≡ length piece.now) }
+        ensures whole_on { whole self.old ↔ whole self.new };
 }
 
 /// Members, each a row of bytes, by their numbers.
@@ -149,11 +163,12 @@ pub trait Rack {
     ghost told: { (s : Self) (q : ℕ) → tells s q → stands s q ≡ true → IsSome (bytes s q) };
 }
 
-/// Writes the whole piece, or fails after a part of it.
+/// Writes the whole piece, or fails after a part of it. No byte is written by two calls, and none by none.
 pub fn write_all<K: Sink>(sink: &mut K, piece: &[u8]) -> Result<(), Failed>
     ensures ok { OnOk result (Told (Took piece.now) (K.taken sink.old) (K.taken sink.new)) }
     ensures err { OnErr result (Told (TookPart piece.now) (K.taken sink.old) (K.taken sink.new)) }
     ensures cause { HasCause (K.faults sink.old) (K.faults sink.new) result }
+    ensures calls { LeavesSink K.whole K.calls 1 (length piece.now) sink.old sink.new }
 {
     let mut at = 0;
     while at < piece.len() {

@@ -67,6 +67,10 @@ impl Sink for MemSink {
 
     ghost faults = { sink_faults };
 
+    ghost calls = { sink_calls };
+
+    ghost whole = { λ _. Unit {0} };
+
     /// It fails exactly where the call is listed, or the piece is past the room, and takes the whole piece otherwise.
     fn write(&mut self, piece: &[u8]) -> Result<usize, Failed>
         ensures within { IfOk result (λ n. n ≤ length piece.now) }
@@ -75,8 +79,9 @@ impl Sink for MemSink {
         ensures err { OnErr result (Told IsSame (Some (taken_in self.old)) (Some (taken_in self.new))) }
         ensures cause { HasCause (sink_faults self.old) (sink_faults self.new) result }
         ensures fails { IsErr result ↔ (IsListed self.old ⊎ IsPast self.old (length piece.now)) }
-        ensures whole { IfOk result (λ n. n ≡ length piece.now) }
         ensures counted { RoseByOne (sink_calls self.old) (sink_calls self.new) }
+        ensures takes_whole { IfOk result (λ n. Unit {0} → n ≡ length piece.now) }
+        ensures whole_on { Unit {0} ↔ Unit {0} }
         ensures lists { sink_fails self.new ≡ sink_fails self.old }
         ensures room { room_in self.new ≡ room_in self.old }
     {
@@ -121,16 +126,18 @@ pub struct SureSink {
     bytes: Vec<u8>,
     room: usize,
     told: bool,
+    calls: u64,
     ghost within: { length bytes.items ≤ room },
     ghost fits: { room ≤ vec_capacity bytes },
 }
 
 impl SureSink {
-    ghost use Rattle.dg_io.specs.Sinks.{sure_room, sure_taken};
+    ghost use Rattle.dg_io.specs.Sinks.{sure_calls, sure_room, sure_taken};
 
     /// An empty sink with room for so many bytes. It takes its memory here.
     pub fn new(alloc: Global, room: usize) -> Result<SureSink, NoMemory>
         ensures taken { IfOk result (λ sink. sure_taken sink ≡ Some []) }
+        ensures calls { IfOk result (λ sink. sure_calls sink ≡ 0) }
         ensures room { IfOk result (λ sink. sure_room sink ≡ room) }
     {
         match Vec::with_capacity(alloc, room) {
@@ -138,6 +145,7 @@ impl SureSink {
                 bytes,
                 room,
                 told: true,
+                calls: 0,
             }),
             Err(_) => Err(NoMemory),
         }
@@ -155,11 +163,15 @@ impl SureSink {
 }
 
 impl Sink for SureSink {
-    ghost use Rattle.dg_io.specs.Sinks.{sure_room, sure_taken};
+    ghost use Rattle.dg_io.specs.Sinks.{sure_calls, sure_room, sure_taken};
 
     ghost taken = { sure_taken };
 
     ghost faults = { λ _. 0 };
+
+    ghost calls = { sure_calls };
+
+    ghost whole = { λ _. Unit {0} };
 
     /// It takes the whole piece, and tells on exactly where the piece isn't past the room.
     fn write(&mut self, piece: &[u8]) -> Result<usize, Failed>
@@ -168,11 +180,14 @@ impl Sink for SureSink {
         ensures bytes { IfOk result (λ n. Told (Took (take n piece.now)) (sure_taken self.old) (sure_taken self.new)) }
         ensures err { OnErr result (Told IsSame (sure_taken self.old) (sure_taken self.new)) }
         ensures cause { HasCause 0 0 result }
-        ensures whole { IfOk result (λ n. n ≡ length piece.now) }
+        ensures counted { RoseByOne (sure_calls self.old) (sure_calls self.new) }
+        ensures takes_whole { IfOk result (λ n. Unit {0} → n ≡ length piece.now) }
+        ensures whole_on { Unit {0} ↔ Unit {0} }
         ensures tells { (all : List ℕ) → sure_taken self.old ≡ Some all
             → IsSome (sure_taken self.new) ↔ (length all + length piece.now ≤ sure_room self.old) }
         ensures room { sure_room self.new ≡ sure_room self.old }
     {
+        self.calls = self.calls.saturating_add(1);
         let fits = has_room(self.room, self.bytes.len(), piece.len());
         if !fits || self.bytes.extend_from_slice(piece).is_err() {
             self.told = false;

@@ -58,6 +58,8 @@ impl Source for MemSource {
 
     ghost faults = { source_faults };
 
+    ghost calls = { source_calls };
+
     /// It fails exactly where the call is listed.
     fn read(&mut self, buf: &mut [u8]) -> Result<usize, Failed>
         ensures within { IfOk result (λ n. n ≤ length buf.new) }
@@ -87,28 +89,37 @@ impl Source for MemSource {
 pub struct SureSource {
     bytes: Vec<u8>,
     at: usize,
+    calls: u64,
     ghost within: { at ≤ length bytes.items },
 }
 
 impl SureSource {
-    ghost use Rattle.dg_io.specs.Sources.{sure_left};
+    ghost use Rattle.dg_io.specs.Sources.{sure_calls, sure_left};
 
     /// A source of these bytes.
     pub fn new(bytes: Vec<u8>) -> Self
-        ensures { sure_left result ≡ bytes.items }
+        ensures left { sure_left result ≡ bytes.items }
+        ensures calls { sure_calls result ≡ 0 }
     {
-        SureSource { bytes, at: 0 }
+        SureSource {
+            bytes,
+            at: 0,
+            calls: 0,
+        }
     }
 }
 
 impl Source for SureSource {
-    ghost use Rattle.dg_io.specs.Sources.{sure_left};
+    ghost use Rattle.dg_io.specs.Sources.{sure_calls, sure_left};
 
     ghost left = { λ s. Some (sure_left s) };
 
     ghost faults = { λ _. 0 };
 
+    ghost calls = { sure_calls };
+
     fn read(&mut self, buf: &mut [u8]) -> Result<usize, Failed> {
+        self.calls = self.calls.saturating_add(1);
         let n = give(&self.bytes, self.at, buf);
         self.at += n;
         Ok(n)

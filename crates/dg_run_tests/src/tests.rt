@@ -18,6 +18,8 @@ impl<S: Source> Source for Pieces<S> {
 
     ghost faults = { λ s. S.faults s.0 };
 
+    ghost calls = { λ s. S.calls s.0 };
+
     fn read(&mut self, buf: &mut [u8]) -> Result<usize, Failed> {
         let most = buf.len().min(self.1.max(1));
         self.0.read(&mut buf[..most])

@@ -202,12 +202,16 @@ struct NarrowSink {
 }
 
 impl Sink for NarrowSink {
-    ghost use Rattle.std.specs.Prelude.{Some};
-    ghost use Rattle.dg_io.specs.Sinks.{taken_in, sink_faults};
+    ghost use Rattle.std.specs.Prelude.{Some, ⊥};
+    ghost use Rattle.dg_io.specs.Sinks.{taken_in, sink_faults, sink_calls};
 
     ghost taken = { λ s. Some (taken_in s.inner) };
 
     ghost faults = { λ s. sink_faults s.inner };
+
+    ghost calls = { λ s. sink_calls s.inner };
+
+    ghost whole = { λ _. ⊥ };
 
     fn write(&mut self, piece: &[u8]) -> Result<usize, Failed> {
         let (front, _) = piece.split_at(piece.len().min(8));

@@ -44,6 +44,7 @@ fn image_of(alloc: Global) -> Result<Vec<u8>, Fail> {
 #[derive(Drop)]
 struct Untold {
     left: usize,
+    calls: u64,
 }
 
 impl Source for Untold {
@@ -51,7 +52,10 @@ impl Source for Untold {
 
     ghost faults = { λ _. 0 };
 
+    ghost calls = { λ s. s.calls };
+
     fn read(&mut self, buf: &mut [u8]) -> Result<usize, Failed> {
+        self.calls = self.calls.saturating_add(1);
         let n = self.left.min(buf.len());
         self.left -= n;
         Ok(n)
@@ -63,6 +67,7 @@ fn an_image_that_is_too_long_is_read_one_byte_too_far(rt: HostRuntime) -> Result
     let alloc = rt.alloc();
     let mut source = Untold {
         left: (1 << 28) + 10,
+        calls: 0,
     };
     let mut sink = sink_of(alloc, &[])?;
     let end = write_trace(alloc, &ASKED, &mut source, &mut sink);

@@ -1,5 +1,5 @@
 // Standard input as a source. It tells no bytes.
-ghost use Rattle.std.specs.Prelude.{None, ◌≤◌};
+ghost use Rattle.std.specs.Prelude.{None, ◌≡◌, ◌≤◌};
 ghost use Rattle.std.specs.Io.{ReadsAtMost};
 ghost use Rattle.dg_model.specs.Causes.{Rose};
 
@@ -14,6 +14,7 @@ pub struct StandardInput {
     rt: HostRuntime,
     stdin: Stdin,
     faults: u64,
+    calls: u64,
 }
 
 /// Reads some bytes. A call that was interrupted is made again, and where there are none yet they are waited for.
@@ -37,6 +38,7 @@ impl StandardInput {
             rt,
             stdin: rt.stdin(),
             faults: 0,
+            calls: 0,
         }
     }
 
@@ -44,6 +46,7 @@ impl StandardInput {
     fn fault(&mut self, error: &io::Error)
         ensures rose { Rose self.old.faults self.new.faults }
         ensures later { self.old.faults ≤ self.new.faults }
+        ensures calls { self.new.calls ≡ self.old.calls }
     {
         if self.faults == 0 {
             report(self.rt, "standard input", "read", error);
@@ -57,7 +60,10 @@ impl Source for StandardInput {
 
     ghost faults = { λ s. s.faults };
 
+    ghost calls = { λ s. s.calls };
+
     fn read(&mut self, buf: &mut [u8]) -> Result<usize, Failed> {
+        self.calls = self.calls.saturating_add(1);
         match read_some(self.rt, &mut self.stdin, buf) {
             Ok(n) => Ok(n),
             Err(error) => {

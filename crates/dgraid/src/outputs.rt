@@ -1,5 +1,5 @@
 // Standard output as a sink. It tells no bytes.
-ghost use Rattle.std.specs.Prelude.{None, ◌≤◌};
+ghost use Rattle.std.specs.Prelude.{None, ◌≡◌, ◌≤◌, ⊥};
 ghost use Rattle.std.specs.Io.{WritesAtMost};
 ghost use Rattle.dg_model.specs.Causes.{Rose};
 
@@ -20,6 +20,7 @@ pub struct StandardOutput<'a> {
     stdout: Stdout,
     search: &'a Search,
     faults: u64,
+    calls: u64,
 }
 
 /// Writes some bytes. A call that was interrupted is made again, and where there is no room yet it is waited for.
@@ -43,6 +44,7 @@ impl<'a> StandardOutput<'a> {
             stdout: rt.stdout(),
             search,
             faults: 0,
+            calls: 0,
         }
     }
 
@@ -50,6 +52,7 @@ impl<'a> StandardOutput<'a> {
     fn fault(&mut self, error: &io::Error)
         ensures rose { Rose self.old.faults self.new.faults }
         ensures later { self.old.faults ≤ self.new.faults }
+        ensures calls { self.new.calls ≡ self.old.calls }
     {
         if self.faults == 0 {
             report(self.rt, "standard output", "write", error);
@@ -63,8 +66,13 @@ impl<'a> Sink for StandardOutput<'a> {
 
     ghost faults = { λ s. s.faults };
 
+    ghost calls = { λ s. s.calls };
+
+    ghost whole = { λ _. ⊥ };
+
     // A write that takes nothing of a piece has failed.
     fn write(&mut self, piece: &[u8]) -> Result<usize, Failed> {
+        self.calls = self.calls.saturating_add(1);
         if piece == NO_STATE {
             self.search.tell(self.rt);
         }
