@@ -43,6 +43,8 @@ module _ {R : Type 0} (rack : Ghosts R) where
   leaves_none v well = record {
     well = well;
     shape = refl;
+    boundaries = refl;
+    line = refl;
     rise = record { faults = λ q. omega arith; calls = omega arith; writes = omega arith };
     tells = λ q told. told;
     told_before = λ q told. told;
@@ -54,6 +56,8 @@ module _ {R : Type 0} (rack : Ghosts R) where
   leaves_both a b c one other = record {
     well = other.well;
     shape = other.shape ∙ one.shape;
+    boundaries = other.boundaries ∙ one.boundaries;
+    line = other.line ∙ one.line;
     rise = record {
       faults = λ q. let early = one.rise.faults q in let late = other.rise.faults q in omega arith;
       calls = omega (arith, one.rise.calls, other.rise.calls);

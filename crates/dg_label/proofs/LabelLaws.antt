@@ -7,7 +7,9 @@ use Rattle.dg_io.specs.declared.outside.Rack.{Ghosts}
 use Rattle.dg_label.specs.Labels.{AreFresh, AreNumbers, AreNumbersOf, HasLength, IsLabeled, IsOfArray, StandsLabeled, is_long, is_sealed, next_number, unsealed}
 use Rattle.dg_io.specs.Commits.{is_marked}
 use Rattle.dg_label.specs.Pages.{LeavesFallen, OpensMember, PageFails, numbered, page_of}
-use Rattle.dg_label.specs.Passes.{AreWhole, FillingStay, Passes, Touches}
+use Rattle.dg_label.specs.LineLaws.{line_itself, line_on, numbers_fit, place_is, room_fits, seal_on}
+use Rattle.dg_label.specs.Lines.{IsLineOf}
+use Rattle.dg_label.specs.Passes.{AreWhole, FillingStay, HaveRoom, Passes, Touches}
 use Rattle.dg_label.specs.Seals.{HasGood, HasNoGood, KeepsArray, OpensMembers, OpensSeal, saved_label}
 use Rattle.dg_label.specs.declared.labels.KeptLabel.{KeptLabel}
 use Rattle.dg_label.proofs.ByteLaws.{body_stays, body_there, extended_long, extended_none, front_there, label_long, patched_long}
@@ -185,8 +187,8 @@ module _ {R : Type 0} (rack : Ghosts R) where
   abbrev FillingFresh : Store R → Type 0
   FillingFresh store = (q : ℕ) → is_filling (members_of store q) ≡ true → IfSome (rack.bytes (rack_of store) q) (λ all. take 512 all ≡ zeros 512)
 
-  filling_fresh : (a : Store R) (label : Option KeptLabel) (last : Option LastLabel) → IsSound rack a → StandsLabeled rack a label last → FillingFresh a
-  filling_fresh a label last sound stands q filling = stands.fresh q (filling_within a q sound filling) (filling_stands a q filling) (stands.filling q filling)
+  filling_fresh : (line : Shape) (a : Store R) (label : Option KeptLabel) (last : Option LastLabel) → IsSound rack a → StandsLabeled rack line a label last → FillingFresh a
+  filling_fresh line a label last sound stands q filling = stands.fresh q (filling_within a q sound filling) (filling_stands a q filling) (stands.filling q filling)
 
   -- so they have while their bytes stay
   pub fresh_on : (a b : Store R) → KeepsArray rack a b → FillingStay rack a b → FillingFresh a → FillingFresh b
@@ -194,11 +196,11 @@ module _ {R : Type 0} (rack : Ghosts R) where
       told_is (λ all. take 512 all ≡ zeros 512) (rack.bytes (rack_of a) q) (rack.bytes (rack_of b) q) (stay q filling) (fresh q (filling_kept rack a b q keeps filling))
 
   -- and once a seal was opened
-  pub fresh_opened : (a b : Store R) (before after : Option KeptLabel) (last : Option LastLabel) → IsSound rack a → OpensSeal rack a b before after
-      → StandsLabeled rack a before last → FillingFresh b
-  fresh_opened a b before after last sound opens stands = elim (cases_Bool (is_sealed before)) [
-    | inl sealed ↦ filling_fresh b after (label_after true (members_of a) (members_of b) last) opens.array.sound (opens.stands last sealed stands)
-    | inr other ↦ subst (λ (s : Store R). FillingFresh s) (sym (opens.quiet other)) (filling_fresh a before last sound stands)
+  pub fresh_opened : (line : Shape) (a b : Store R) (before after : Option KeptLabel) (last : Option LastLabel) → IsSound rack a → OpensSeal rack a b before after
+      → IsLabeled rack line a before → StandsLabeled rack line a before last → FillingFresh b
+  fresh_opened line a b before after last sound opens labeled stands = elim (cases_Bool (is_sealed before)) [
+    | inl sealed ↦ filling_fresh line b after (label_after true (members_of a) (members_of b) last) opens.array.sound (opens.stands line last labeled sealed stands)
+    | inr other ↦ subst (λ (s : Store R). FillingFresh s) (sym (opens.quiet other)) (filling_fresh line a before last sound stands)
   ]
 
   -- no other members are without a label where each good one keeps it
@@ -221,11 +223,12 @@ module _ {R : Type 0} (rack : Ghosts R) where
       (sound.long q (good_stands a q good))
 
   -- so has a body, where members are whole
-  pub has_place : (a : Store R) (body : List ℕ) (q : ℕ) → AreWhole rack a → length body ≤ room_of 2 (shape_of a) → is_good (members_of a q) ≡ true
-      → IfSome (rack.bytes (rack_of a) q) (λ all. body_place (shape_of a) + length body ≤ length all)
-  has_place a body q whole room good =
-      weaker (λ all. length all ≡ member_length 2 (shape_of a)) (λ all. body_place (shape_of a) + length body ≤ length all) (rack.bytes (rack_of a) q)
-      (λ all long. omega (arith, long, room))
+  pub have_room : (line : Shape) (a : Store R) (size : ℕ) → IsLineOf line (shape_of a) → AreWhole rack line a → size ≤ room_of 2 (shape_of a) → HaveRoom rack a size
+  have_room line a size fits whole room q good =
+      let place = place_is line (shape_of a) fits in
+      let less = room_fits line (shape_of a) 2 fits in
+      weaker (λ all. length all ≡ member_length 2 line) (λ all. body_place (shape_of a) + size ≤ length all) (rack.bytes (rack_of a) q)
+      (λ all long. omega (arith, long, room, place, less))
       (whole q (good_stands a q good))
 
   -- what holds of the length of each member that stands, holds after such a pass that keeps lengths
@@ -247,30 +250,29 @@ module _ {R : Type 0} (rack : Ghosts R) where
   ]
 
   -- so long is a good member whose turn hasn't come, where members are made longer
-  pub length_on : (a b : Store R) (kept : Option KeptLabel) (n : ℕ) → IsLabeled rack a kept
-      → Passes rack n (λ (q : ℕ). Extended (member_length 2 (shape_of a))) a b → is_good (members_of b n) ≡ true
-      → IfSome (rack.bytes (rack_of b) n) (λ all. HasLength (shape_of b) kept n (length all))
-  length_on a b kept n labeled passes good =
-      subst (λ (sh : Shape). IfSome (rack.bytes (rack_of b) n) (λ all. HasLength sh kept n (length all))) (sym passes.array.stays.shape)
-      (rest_is rack (λ all. HasLength (shape_of a) kept n (length all)) (λ (q : ℕ). Extended (member_length 2 (shape_of a))) n a b passes
-      (labeled.lengths n (good_stands a n (good_kept rack a b n passes.array good))))
+  pub length_on : (line : Shape) (a b : Store R) (kept : Option KeptLabel) (n : ℕ) → IsLabeled rack line a kept
+      → Passes rack n (λ (q : ℕ). Extended (member_length 2 line)) a b → is_good (members_of b n) ≡ true
+      → IfSome (rack.bytes (rack_of b) n) (λ all. HasLength line kept n (length all))
+  length_on line a b kept n labeled passes good =
+      rest_is rack (λ all. HasLength line kept n (length all)) (λ (q : ℕ). Extended (member_length 2 line)) n a b passes
+      (labeled.lengths n (good_stands a n (good_kept rack a b n passes.array good)))
 
   -- no good member is longer than format 2 says
-  pub fits_one : (a : Store R) (kept : Option KeptLabel) (q : ℕ) → IfSome (rack.bytes (rack_of a) q) (λ all. HasLength (shape_of a) kept q (length all))
-      → IfSome (rack.bytes (rack_of a) q) (FitsIn (member_length 2 (shape_of a)))
-  fits_one a kept q =
-      weaker (λ all. HasLength (shape_of a) kept q (length all)) (FitsIn (member_length 2 (shape_of a))) (rack.bytes (rack_of a) q)
-      (λ all long. length_fits (shape_of a) (is_long kept q) (length all) long)
+  pub fits_one : (line : Shape) (a : Store R) (kept : Option KeptLabel) (q : ℕ) → IfSome (rack.bytes (rack_of a) q) (λ all. HasLength line kept q (length all))
+      → IfSome (rack.bytes (rack_of a) q) (FitsIn (member_length 2 line))
+  fits_one line a kept q =
+      weaker (λ all. HasLength line kept q (length all)) (FitsIn (member_length 2 line)) (rack.bytes (rack_of a) q)
+      (λ all long. length_fits line (is_long kept q) (length all) long)
 
-  fits_whole : (a : Store R) (kept : Option KeptLabel) → IsLabeled rack a kept → (q : ℕ) → is_good (members_of a q) ≡ true
-      → IfSome (rack.bytes (rack_of a) q) (FitsIn (member_length 2 (shape_of a)))
-  fits_whole a kept labeled q good = fits_one a kept q (labeled.lengths q (good_stands a q good))
+  fits_whole : (line : Shape) (a : Store R) (kept : Option KeptLabel) → IsLabeled rack line a kept → (q : ℕ) → is_good (members_of a q) ≡ true
+      → IfSome (rack.bytes (rack_of a) q) (FitsIn (member_length 2 line))
+  fits_whole line a kept labeled q good = fits_one line a kept q (labeled.lengths q (good_stands a q good))
 
   -- a good member that is long already is as if it were made longer
-  pub touched_long : (a : Store R) (kept : Option KeptLabel) (q : ℕ) → IsSound rack a → is_long kept q ≡ true
-      → (is_good (members_of a q) ≡ true → IfSome (rack.bytes (rack_of a) q) (λ all. HasLength (shape_of a) kept q (length all)))
-      → Touches rack q (Extended (member_length 2 (shape_of a))) a a
-  touched_long a kept q sound long has = record {
+  pub touched_long : (line : Shape) (a : Store R) (kept : Option KeptLabel) (q : ℕ) → IsSound rack a → is_long kept q ≡ true
+      → (is_good (members_of a q) ≡ true → IfSome (rack.bytes (rack_of a) q) (λ all. HasLength line kept q (length all)))
+      → Touches rack q (Extended (member_length 2 line)) a a
+  touched_long line a kept q sound long has = record {
     array = keeps_none rack a sound;
     here = λ good. extended_same (rack.bytes (rack_of a) q) (has good);
     filling = λ filling. told_same (rack.bytes (rack_of a) q);
@@ -279,19 +281,19 @@ module _ {R : Type 0} (rack : Ghosts R) where
     most = omega arith;
   }
     where
-      extended_same : (told : Option (List ℕ)) → IfSome told (λ all. HasLength (shape_of a) kept q (length all))
-          → Told (Extended (member_length 2 (shape_of a))) told told
+      extended_same : (told : Option (List ℕ)) → IfSome told (λ all. HasLength line kept q (length all))
+          → Told (Extended (member_length 2 line)) told told
       extended_same None is = tt
-      extended_same (Some all) is = extended_none (member_length 2 (shape_of a)) all (length_when (shape_of a) kept q (length all) true long is)
+      extended_same (Some all) is = extended_none (member_length 2 line) all (length_when line kept q (length all) true long is)
 
   -- where there is no seal, none is opened
-  pub opens_none : (a : Store R) (label : Option KeptLabel) → IsSound rack a → IsLabeled rack a label → is_sealed label ≡ false → OpensSeal rack a a label label
-  opens_none a label sound labeled none = record {
+  pub opens_none : (a : Store R) (label : Option KeptLabel) → IsSound rack a → is_sealed label ≡ false → OpensSeal rack a a label label
+  opens_none a label sound none = record {
     array = keeps_none rack a sound;
-    labeled = labeled;
+    labeled = λ line labeled. labeled;
     after_is = unsealed_same label none;
     quiet = λ other. refl;
-    stands = λ last sealed. absurd (both_ways (is_sealed label) none sealed);
+    stands = λ line last labeled sealed. absurd (both_ways (is_sealed label) none sealed);
     members = λ kept is sealed. absurd (both_ways (is_sealed label) none (ap is_sealed is ∙ sealed));
     wrote = λ sealed. absurd (both_ways (is_sealed label) none sealed);
     most = omega arith;
@@ -333,19 +335,20 @@ module _ {R : Type 0} (rack : Ghosts R) where
         (λ x y changed h. body_stays (shape_of a) body (label_bytes (numbered (shape_of a) kept q)) x y (label_long (numbered (shape_of a) kept q)) changed h)
         (passes.done q (omega (arith, within)) good) (had q was))
 
-    labeled_after : (kept : KeptLabel) (next : KeptLabel) → ((q : ℕ) → is_long (Some kept) q ≡ is_long (Some next) q) → AreNumbers (shape_of a) next
-        → IsLabeled rack a (Some kept) → Labels next → IsLabeled rack b (Some next)
-    labeled_after kept next same numbers labeled passes = record {
-      numbers = subst (λ (sh : Shape). AreNumbers sh next) (sym passes.array.stays.shape) numbers;
+    unsealed_numbers : (shape : Shape) (kept : KeptLabel) → AreNumbers shape kept → AreNumbers shape (record kept { sealed = false })
+    unsealed_numbers shape kept is = record { formats = is.formats; first = is.first; last = is.last; body = is.body }
+
+    labeled_after : (line : Shape) (kept : KeptLabel) → IsLabeled rack line a (Some kept) → Labels (record kept { sealed = false })
+        → IsLabeled rack line b (Some (record kept { sealed = false }))
+    labeled_after line kept labeled passes = let next : KeptLabel = record kept { sealed = false } in record {
+      fits = line_on line (shape_of a) (shape_of b) passes.array.stays.shape labeled.fits;
+      numbers = unsealed_numbers line kept labeled.numbers;
+      sealed = λ sealed. absurd (false≢true sealed);
       lengths = λ q stands.
-          subst (λ (sh : Shape). IfSome (rack.bytes (rack_of b) q) (λ all. HasLength sh (Some next) q (length all))) (sym passes.array.stays.shape)
-          (label_lengths (HasLength (shape_of a) (Some next) q) next passes q stands
-          (subst (λ (long : Bool). IfSome (rack.bytes (rack_of a) q) (λ all. length all ≡ member_length (if long then 2 else 1) (shape_of a))) (same q)
-          (labeled.lengths q (stood_kept rack a b q passes.array stands))));
+          label_lengths (HasLength line (Some next) q) next passes q stands (labeled.lengths q (stood_kept rack a b q passes.array stands));
       filling = λ q filling.
-          subst (λ (sh : Shape). IfSome (rack.bytes (rack_of b) q) (λ all. length all ≡ member_length 2 sh)) (sym passes.array.stays.shape)
-          (label_lengths (λ size. size ≡ member_length 2 (shape_of a)) next passes q (filling_stands b q filling)
-          (labeled.filling q (filling_kept rack a b q passes.array filling)));
+          label_lengths (λ size. size ≡ member_length 2 line) next passes q (filling_stands b q filling)
+          (labeled.filling q (filling_kept rack a b q passes.array filling));
     }
 
     -- ---- opening a seal
@@ -358,17 +361,18 @@ module _ {R : Type 0} (rack : Ghosts R) where
     opens_all last true = refl
     opens_all last false = refl
 
-    opened_stands : (kept : KeptLabel) (last : LastLabel) → kept.sealed ≡ true → AreNumbers (shape_of a) kept → Labels (record kept { sealed = false })
-        → IsLabeled rack b (Some (record kept { sealed = false }))
-        → StandsLabeled rack a (Some kept) (Some last) → StandsLabeled rack b (Some (record kept { sealed = false })) (Some (opened last))
-    opened_stands kept last is numbers passes labeled stands =
+    opened_stands : (line : Shape) (kept : KeptLabel) (last : LastLabel) → kept.sealed ≡ true → AreNumbers (shape_of a) kept → Labels (record kept { sealed = false })
+        → IsLabeled rack line b (Some (record kept { sealed = false }))
+        → StandsLabeled rack line a (Some kept) (Some last) → StandsLabeled rack line b (Some (record kept { sealed = false })) (Some (opened last))
+    opened_stands line kept last is numbers passes labeled stands =
         let same : AreNumbersOf last kept = stands.kept in
+        let was : IsOfArray (shape_of a) last = stands.of_array (inl (same.sealed ∙ is)) in
         let of_array : IsOfArray (shape_of b) (opened last) = record {
-          shape_is = stands.of_array.shape_is ∙ sym passes.array.stays.shape;
-          numbers_are = stands.of_array.numbers_are;
+          shape_is = was.shape_is ∙ sym passes.array.stays.shape;
+          numbers_are = was.numbers_are;
         } in
         let next : KeptLabel = record kept { sealed = false } in
-        let next_numbers : AreNumbers (shape_of a) next = record { formats = numbers.formats; first = numbers.first; last = numbers.last; body = numbers.body } in
+        let next_numbers : AreNumbers (shape_of a) next = unsealed_numbers (shape_of a) kept numbers in
         let of_next : AreNumbersOf (opened last) next = record { format = same.format; sequence = same.sequence; sealed = refl; body = same.body } in
         record {
           kept = of_next;
@@ -380,20 +384,20 @@ module _ {R : Type 0} (rack : Ghosts R) where
                 (have_labels next next_numbers passes q good);
             body = λ q keeps sealed. absurd (false≢true sealed);
           };
-          sizes = λ q keeps.
+          sizes = λ all_named q keeps.
               let parts = and_parts (last.sealed || last.keepers q) (is_good (members_of a q) && is_good (members_of b q)) keeps in
               let good = (and_parts (is_good (members_of a q)) (is_good (members_of b q)) parts.1).1 in
-              weaker (λ all. HasLength (shape_of b) (Some next) q (length all)) (λ all. saves.HasLength (label_on (opened last) q) (length all)) (rack.bytes (rack_of b) q)
-              (λ all long. size_is (shape_of b) (opened last) next q (length all) of_next of_array numbers.formats long)
+              weaker (λ all. HasLength line (Some next) q (length all)) (λ all. saves.HasLength (label_on (opened last) q) (length all)) (rack.bytes (rack_of b) q)
+              (λ all long. size_is line (opened last) next q (length all) of_next (record { shape_is = all_named; numbers_are = was.numbers_are }) numbers.formats long)
               (labeled.lengths q (good_stands b q good));
-          of_array = of_array;
+          of_array = λ why. of_array;
           filling = λ q filling.
               kept_none (last.sealed || last.keepers q) (is_good (members_of a q)) (is_good (members_of b q)) (filling_bad (members_of b q) filling);
           fresh = fresh_rest b (opened last)
               (λ q good. and_from (last.sealed || last.keepers q) (is_good (members_of a q) && is_good (members_of b q))
               (or_left last.sealed (last.keepers q) (same.sealed ∙ is))
               (and_from (is_good (members_of a q)) (is_good (members_of b q)) (good_kept rack a b q passes.array good) good))
-              (fresh_on a b passes.array passes.filling (filling_fresh a (Some kept) (Some last) sound stands));
+              (fresh_on a b passes.array passes.filling (filling_fresh line a (Some kept) (Some last) sound stands));
         }
 
     -- a failed page with the opened seal of each member
@@ -416,107 +420,90 @@ module _ {R : Type 0} (rack : Ghosts R) where
               (rack.bytes (rack_of a) q) (rack.bytes (rack_of b) q) (fallen.fell q was gone)
         ]
 
-    pub opens_seal : (kept : KeptLabel) → kept.sealed ≡ true → IsLabeled rack a (Some kept) → Labels (record kept { sealed = false })
+    pub opens_seal : (kept : KeptLabel) → kept.sealed ≡ true → AreNumbers (shape_of a) kept → Labels (record kept { sealed = false })
         → LeavesFallen rack (UnsealFails kept) a b → (HasGood a → HasWritten rack a b) → OpensSeal rack a b (Some kept) (Some (record kept { sealed = false }))
-    opens_seal kept is labeled passes fallen wrote =
-        let n = labeled.numbers in
-        let next : KeptLabel = record kept { sealed = false } in
-        let next_numbers : AreNumbers (shape_of a) next = record { formats = n.formats; first = n.first; last = n.last; body = n.body } in
-        record {
-          array = passes.array;
-          labeled = labeled_after kept next (λ q. refl) next_numbers labeled passes;
-          after_is = refl;
-          quiet = λ other. absurd (false≢true (sym other ∙ is));
-          stands = λ last sealed stands. at_last last stands;
-          members = λ same is_same sealed.
-              subst (λ (k : KeptLabel). OpensMembers rack k a b) (ap (kept_in kept) is_same) (opens_members kept passes fallen);
-          wrote = λ sealed has. wrote has;
-          most = passes.most;
-        }
+    opens_seal kept is numbers passes fallen wrote = record {
+      array = passes.array;
+      labeled = λ line labeled. labeled_after line kept labeled passes;
+      after_is = refl;
+      quiet = λ other. absurd (false≢true (sym other ∙ is));
+      stands = λ line last labeled sealed stands. at_last line labeled last stands;
+      members = λ same is_same sealed.
+          subst (λ (k : KeptLabel). OpensMembers rack k a b) (ap (kept_in kept) is_same) (opens_members kept passes fallen);
+      wrote = λ sealed has. wrote has;
+      most = passes.most;
+    }
       where
-        at_last : (last : Option LastLabel) → StandsLabeled rack a (Some kept) last
-            → StandsLabeled rack b (Some (record kept { sealed = false })) (label_after true (members_of a) (members_of b) last)
-        at_last None stands = absurd stands.kept
-        at_last (Some last) stands =
-            let n = labeled.numbers in
-            let next : KeptLabel = record kept { sealed = false } in
-            let next_numbers : AreNumbers (shape_of a) next = record { formats = n.formats; first = n.first; last = n.last; body = n.body } in
-            subst (λ (l : LastLabel). StandsLabeled rack b (Some (record kept { sealed = false })) (Some l)) (sym (opens_all last last.sealed))
-            (opened_stands kept last is labeled.numbers passes (labeled_after kept next (λ q. refl) next_numbers labeled passes) stands)
+        at_last : (line : Shape) → IsLabeled rack line a (Some kept) → (last : Option LastLabel) → StandsLabeled rack line a (Some kept) last
+            → StandsLabeled rack line b (Some (record kept { sealed = false })) (label_after true (members_of a) (members_of b) last)
+        at_last line labeled None stands = absurd stands.kept
+        at_last line labeled (Some last) stands =
+            subst (λ (l : LastLabel). StandsLabeled rack line b (Some (record kept { sealed = false })) (Some l)) (sym (opens_all last last.sealed))
+            (opened_stands line kept last is numbers passes (labeled_after line kept labeled passes) stands)
 
     -- ---- saving
 
     -- the body, behind the slots of each good member
-    pub have_bodies : (body : List ℕ) → AreWhole rack a → length body ≤ room_of 2 (shape_of a)
+    pub have_bodies : (body : List ℕ) → HaveRoom rack a (length body)
         → Passes rack (2 * (shape_of a).b) (λ (q : ℕ). Patched (body_place (shape_of a)) body) a b → HaveBody b body
-    have_bodies body whole room passes q good =
+    have_bodies body room passes q good =
         let was = good_kept rack a b q passes.array good in
         let within = good_within a q sound was in
         subst (λ (sh : Shape). IfSome (rack.bytes (rack_of b) q) (λ all. HasBody all sh body)) (sym passes.array.stays.shape)
         (told_with (λ all. body_place (shape_of a) + length body ≤ length all) (λ all. HasBody all (shape_of a) body) (Patched (body_place (shape_of a)) body)
         (rack.bytes (rack_of a) q) (rack.bytes (rack_of b) q) (λ x y changed fits. body_there (shape_of a) body x y changed fits)
-        (passes.done q (omega (arith, within)) good) (has_place a body q whole room was))
-
-    whole_moves : ((q : ℕ) → members_of b q ≢ Out → IfSome (rack.bytes (rack_of b) q) (λ all. length all ≡ member_length 2 (shape_of a)))
-        → shape_of b ≡ shape_of a → AreWhole rack b
-    whole_moves long same q stands =
-        subst (λ (sh : Shape). IfSome (rack.bytes (rack_of b) q) (λ all. length all ≡ member_length 2 sh)) (sym same) (long q stands)
+        (passes.done q (omega (arith, within)) good) (room q was))
 
     -- members that are whole stay so where bodies are written
-    pub whole_bodies : (body : List ℕ) → AreWhole rack a → length body ≤ room_of 2 (shape_of a)
-        → Passes rack (2 * (shape_of a).b) (λ (q : ℕ). Patched (body_place (shape_of a)) body) a b → AreWhole rack b
-    whole_bodies body whole room passes =
-        whole_moves
-        (λ q stands. lengths_stay (λ size. size ≡ member_length 2 (shape_of a)) (λ (q : ℕ). Patched (body_place (shape_of a)) body)
+    pub whole_bodies : (line : Shape) (body : List ℕ) → AreWhole rack line a → HaveRoom rack a (length body)
+        → Passes rack (2 * (shape_of a).b) (λ (q : ℕ). Patched (body_place (shape_of a)) body) a b → AreWhole rack line b
+    whole_bodies line body whole room passes q stands =
+        lengths_stay (λ size. size ≡ member_length 2 line) (λ (q : ℕ). Patched (body_place (shape_of a)) body)
         (λ q all. body_place (shape_of a) + length body ≤ length all) a b sound passes (λ q x y changed fits. patched_long (body_place (shape_of a)) body x y changed fits)
-        (λ q good. has_place a body q whole room good) q stands (whole q (stood_kept rack a b q passes.array stands)))
-        passes.array.stays.shape
+        room q stands (whole q (stood_kept rack a b q passes.array stands))
 
     -- and where labels are
-    whole_labels : (kept : KeptLabel) → AreWhole rack a → Labels kept → AreWhole rack b
-    whole_labels kept whole passes =
-        whole_moves
-        (λ q stands. label_lengths (λ size. size ≡ member_length 2 (shape_of a)) kept passes q stands (whole q (stood_kept rack a b q passes.array stands)))
-        passes.array.stays.shape
+    whole_labels : (line : Shape) (kept : KeptLabel) → AreWhole rack line a → Labels kept → AreWhole rack line b
+    whole_labels line kept whole passes q stands =
+        label_lengths (λ size. size ≡ member_length 2 line) kept passes q stands (whole q (stood_kept rack a b q passes.array stands))
 
     -- beneath a label of format 1 members are made whole
-    pub whole_extended : (kept : Option KeptLabel) → IsLabeled rack a kept
-        → Passes rack (2 * (shape_of a).b) (λ (q : ℕ). Extended (member_length 2 (shape_of a))) a b → AreWhole rack b
-    whole_extended kept labeled passes = whole_moves long passes.array.stays.shape
-      where
-        long : (q : ℕ) → members_of b q ≢ Out → IfSome (rack.bytes (rack_of b) q) (λ all. length all ≡ member_length 2 (shape_of a))
-        long q stands = elim (good_or_filling (members_of b q) stands) [
-          | inl good ↦
-              let was = good_kept rack a b q passes.array good in
-              let within = good_within a q sound was in
-              told_with (FitsIn (member_length 2 (shape_of a))) (λ all. length all ≡ member_length 2 (shape_of a)) (Extended (member_length 2 (shape_of a)))
-              (rack.bytes (rack_of a) q) (rack.bytes (rack_of b) q) (λ x y changed fits. extended_long (member_length 2 (shape_of a)) x y changed fits)
-              (passes.done q (omega (arith, within)) good) (fits_whole a kept labeled q was)
-          | inr filling ↦
-              told_with (λ all. length all ≡ member_length 2 (shape_of a)) (λ all. length all ≡ member_length 2 (shape_of a)) IsSame
-              (rack.bytes (rack_of a) q) (rack.bytes (rack_of b) q) (λ x y same h. ap length same ∙ h) (passes.filling q filling)
-              (labeled.filling q (filling_kept rack a b q passes.array filling))
-        ]
+    pub whole_extended : (line : Shape) (kept : Option KeptLabel) → IsLabeled rack line a kept
+        → Passes rack (2 * (shape_of a).b) (λ (q : ℕ). Extended (member_length 2 line)) a b → AreWhole rack line b
+    whole_extended line kept labeled passes q stands = elim (good_or_filling (members_of b q) stands) [
+      | inl good ↦
+          let was = good_kept rack a b q passes.array good in
+          let within = good_within a q sound was in
+          told_with (FitsIn (member_length 2 line)) (λ all. length all ≡ member_length 2 line) (Extended (member_length 2 line))
+          (rack.bytes (rack_of a) q) (rack.bytes (rack_of b) q) (λ x y changed fits. extended_long (member_length 2 line) x y changed fits)
+          (passes.done q (omega (arith, within)) good) (fits_whole line a kept labeled q was)
+      | inr filling ↦
+          told_with (λ all. length all ≡ member_length 2 line) (λ all. length all ≡ member_length 2 line) IsSame
+          (rack.bytes (rack_of a) q) (rack.bytes (rack_of b) q) (λ x y same h. ap length same ∙ h) (passes.filling q filling)
+          (labeled.filling q (filling_kept rack a b q passes.array filling))
+    ]
 
     -- what a save leaves on members that have the body already
-    pub saved : (body : List ℕ) (kept : KeptLabel) → kept.format ≡ 2 → kept.sealed ≡ true → kept.body ≡ length body → 1 ≤ kept.sequence → kept.sequence < 2 ^ 63
-        → length body ≤ room_of 2 (shape_of a) → AreWhole rack a → HaveBody a body → Labels kept
-        → IsLabeled rack b (Some kept) × (FillingFresh b → StandsLabeled rack b (Some kept) (Some (saved_label b kept.sequence body)))
-    saved body kept format sealed size first last room whole had passes =
+    pub saved : (line : Shape) (body : List ℕ) (kept : KeptLabel) → kept.format ≡ 2 → kept.sealed ≡ true → kept.body ≡ length body → 1 ≤ kept.sequence → kept.sequence < 2 ^ 63
+        → IsLineOf line (shape_of a) → length body ≤ room_of 2 (shape_of a) → AreWhole rack line a → HaveBody a body → Labels kept
+        → IsLabeled rack line b (Some kept) × (FillingFresh b → StandsLabeled rack line b (Some kept) (Some (saved_label b kept.sequence body)))
+    saved line body kept format sealed size first last fits room whole had passes =
         let numbers : AreNumbers (shape_of a) kept = record {
           formats = inr format;
           first = first;
           last = last;
           body = subst (λ (f : ℕ). kept.body ≤ room_of f (shape_of a)) (sym format) (omega (arith, size, room));
         } in
-        let is_whole = whole_labels kept whole passes in
+        let is_whole = whole_labels line kept whole passes in
         let of_kept : AreNumbersOf (saved_label b kept.sequence body) kept = record { format = sym format; sequence = refl; sealed = sym sealed; body = sym size } in
         let of_array : IsOfArray (shape_of b) (saved_label b kept.sequence body) = record { shape_is = refl; numbers_are = λ q. refl } in (
           record {
-            numbers = subst (λ (sh : Shape). AreNumbers sh kept) (sym passes.array.stays.shape) numbers;
+            fits = line_on line (shape_of a) (shape_of b) passes.array.stays.shape fits;
+            numbers = numbers_fit line (shape_of a) kept fits numbers;
+            sealed = λ is. subst (λ (sh : Shape). AreNumbers sh kept) (sym passes.array.stays.shape) numbers;
             lengths = λ q stands.
-                weaker (λ all. length all ≡ member_length 2 (shape_of b)) (λ all. HasLength (shape_of b) (Some kept) q (length all)) (rack.bytes (rack_of b) q)
-                (λ all long. length_long (shape_of b) (Some kept) q (length all) (long_by kept q format) long) (is_whole q stands);
+                weaker (λ all. length all ≡ member_length 2 line) (λ all. HasLength line (Some kept) q (length all)) (rack.bytes (rack_of b) q)
+                (λ all long. length_long line (Some kept) q (length all) (long_by kept q format) long) (is_whole q stands);
             filling = λ q filling. is_whole q (filling_stands b q filling);
           },
           λ fresh. record {
@@ -527,33 +514,38 @@ module _ {R : Type 0} (rack : Ghosts R) where
                   (label_same (shape_of b) (saved_label b kept.sequence body) kept q of_kept of_array) (have_labels kept numbers passes q good);
               body = λ q good is. have_body kept body passes had q good;
             };
-            sizes = λ q good.
-                weaker (λ all. length all ≡ member_length 2 (shape_of b)) (λ all. saves.HasLength (label_on (saved_label b kept.sequence body) q) (length all))
-                (rack.bytes (rack_of b) q) (λ all long. inl long) (is_whole q (good_stands b q good));
-            of_array = of_array;
+            sizes = λ all_named q good.
+                weaker (λ all. length all ≡ member_length 2 line) (λ all. saves.HasLength (label_on (saved_label b kept.sequence body) q) (length all))
+                (rack.bytes (rack_of b) q) (λ all long. inl (long ∙ ap (member_length 2) (sym all_named))) (is_whole q (good_stands b q good));
+            of_array = λ why. of_array;
             filling = λ q filling. filling_bad (members_of b q) filling;
             fresh = fresh_rest b (saved_label b kept.sequence body) (λ q good. good) fresh;
           },
         )
 
   -- what a save leaves once members are whole: bodies are written, and then labels
-  pub save_stands : (a b c : Store R) (body : List ℕ) (kept : KeptLabel) → IsSound rack a → AreWhole rack a → length body ≤ room_of 2 (shape_of a)
+  pub save_stands : (line : Shape) (a b c : Store R) (body : List ℕ) (kept : KeptLabel) → IsSound rack a → IsLineOf line (shape_of a) → AreWhole rack line a
+      → length body ≤ room_of 2 (shape_of a)
       → Passes rack (2 * (shape_of a).b) (λ (q : ℕ). Patched (body_place (shape_of a)) body) a b
       → Passes rack (2 * (shape_of b).b) (λ (q : ℕ). Patched 0 (label_bytes (numbered (shape_of b) kept q))) b c
       → kept.format ≡ 2 → kept.sealed ≡ true → kept.body ≡ length body → 1 ≤ kept.sequence → kept.sequence < 2 ^ 63
-      → IsLabeled rack c (Some kept) × (FillingFresh a → StandsLabeled rack c (Some kept) (Some (saved_label c kept.sequence body)))
-  save_stands a b c body kept sound whole room bodies labels format sealed size first last =
+      → IsLabeled rack line c (Some kept) × (FillingFresh a → StandsLabeled rack line c (Some kept) (Some (saved_label c kept.sequence body)))
+  save_stands line a b c body kept sound fits whole room bodies labels format sealed size first last =
+      let place = have_room line a (length body) fits whole room in
       let both =
-      saved b c bodies.array.sound body kept format sealed size first last (subst (λ (sh : Shape). length body ≤ room_of 2 sh) (sym bodies.array.stays.shape) room)
-      (whole_bodies a b sound body whole room bodies) (have_bodies a b sound body whole room bodies) labels in (
+      saved b c bodies.array.sound line body kept format sealed size first last (line_on line (shape_of a) (shape_of b) bodies.array.stays.shape fits)
+      (subst (λ (sh : Shape). length body ≤ room_of 2 sh) (sym bodies.array.stays.shape) room)
+      (whole_bodies a b sound line body whole place bodies) (have_bodies a b sound body place bodies) labels in (
         both.0,
         λ fresh. both.1 (fresh_on b c labels.array labels.filling (fresh_on a b bodies.array bodies.filling fresh)),
       )
 
   -- a label stays that of an array none of whose members stands
-  pub none_labeled : (a b : Store R) (kept : Option KeptLabel) → IsLabeled rack a kept → KeepsArray rack a b → HasNoGood b → IsLabeled rack b kept
-  none_labeled a b kept labeled keeps none = record {
-    numbers = subst (λ (sh : Shape). IfSome kept (AreNumbers sh)) (sym keeps.stays.shape) labeled.numbers;
+  pub none_labeled : (line : Shape) (a b : Store R) (kept : Option KeptLabel) → IsLabeled rack line a kept → KeepsArray rack a b → HasNoGood b → IsLabeled rack line b kept
+  none_labeled line a b kept labeled keeps none = record {
+    fits = line_on line (shape_of a) (shape_of b) keeps.stays.shape labeled.fits;
+    numbers = labeled.numbers;
+    sealed = seal_on (shape_of a) (shape_of b) kept keeps.stays.shape labeled.sealed;
     lengths = λ q stands. absurd (none_stands b keeps.sound none q stands);
     filling = λ q filling. absurd (none_stands b keeps.sound none q (filling_stands b q filling));
   }
@@ -576,16 +568,18 @@ module _ {R : Type 0} (rack : Ghosts R) where
   ]
 
   blank_long : (shape : Shape) (before : R) (store : Store R) → IsBlankStore rack shape before store → (q : ℕ) → members_of store q ≢ Out
-      → IfSome (rack.bytes (rack_of store) q) (λ all. length all ≡ member_length 2 (shape_of store))
+      → IfSome (rack.bytes (rack_of store) q) (λ all. length all ≡ member_length 2 shape)
   blank_long shape before store blank q stands =
-      subst (λ (sh : Shape). IfSome (rack.bytes (rack_of store) q) (λ all. length all ≡ member_length 2 sh)) (sym (ap (λ (t : Table). t.shape) blank.table))
-      (weaker (λ all. all ≡ replicate (member_length 2 shape) 0) (λ all. length all ≡ member_length 2 shape) (rack.bytes (rack_of store) q)
+      weaker (λ all. all ≡ replicate (member_length 2 shape) 0) (λ all. length all ≡ member_length 2 shape) (rack.bytes (rack_of store) q)
       (λ all zeros. ap length zeros ∙ length-replicate {A = ℕ} (member_length 2 shape) 0)
-      (blank.blanked q (blank_good shape before store blank q stands)))
+      (blank.blanked q (blank_good shape before store blank q stands))
 
-  blank_labeled : (shape : Shape) (before : R) (store : Store R) → IsBlankStore rack shape before store → IsLabeled rack store None
+  blank_labeled : (shape : Shape) (before : R) (store : Store R) → IsBlankStore rack shape before store → IsLabeled rack shape store None
   blank_labeled shape before store blank = record {
+    fits = let same : shape_of store ≡ shape = ap (λ (t : Table). t.shape) blank.table in
+        line_on shape shape (shape_of store) same (line_itself shape (subst IsShape same blank.sound.table.shape));
     numbers = tt;
+    sealed = λ sealed. absurd (false≢true sealed);
     lengths = λ q stands. blank_long shape before store blank q stands;
     filling = λ q filling. blank_long shape before store blank q (filling_stands rack store q filling);
   }
@@ -595,6 +589,6 @@ module _ {R : Type 0} (rack : Ghosts R) where
   made_sound shape before (Err e) blank = tt
 
   pub made_labeled : (shape : Shape) (before : R) (r : Result (Store R) NoMemory) → IfOk r (λ store. IsBlankStore rack shape before store)
-      → IfOk r (λ store. IsLabeled rack store None)
+      → IfOk r (λ store. IsLabeled rack shape store None)
   made_labeled shape before (Ok store) blank = blank_labeled shape before store blank
   made_labeled shape before (Err e) blank = tt

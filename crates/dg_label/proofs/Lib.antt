@@ -4,4 +4,6 @@ mod LabelLaws
 mod LengthLaws
 mod LeftLaws
 mod PassLaws
+mod PlaceLaws
+mod ReducedLaws
 mod SaveLaws

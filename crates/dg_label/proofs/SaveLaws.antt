@@ -6,17 +6,17 @@ use Rattle.dg_io.specs.Told.{Extended, IsSame, KeepsFront, Patched, Told, Torn}
 use Rattle.dg_io.specs.declared.outside.Rack.{Ghosts}
 use Rattle.dg_label.specs.Labels.{is_long, is_sealed, unsealed}
 use Rattle.dg_label.specs.Pages.{LeavesFallen, OpensMember, PageFails, numbered, page_of}
-use Rattle.dg_label.specs.Passes.{AreWhole, IsUncalled, Passes}
+use Rattle.dg_label.specs.Passes.{HaveRoom, IsUncalled, Passes}
 use Rattle.dg_label.specs.Saves.{LeavesMember, LeavesMembers, save_calls, saved_numbers, short_members}
 use Rattle.dg_label.specs.Seals.{KeepsArray, OpensSeal}
 use Rattle.dg_label.specs.declared.labels.KeptLabel.{KeptLabel}
 use Rattle.dg_label.proofs.ByteLaws.{extended_front, front_longer, front_patched, same_front}
 use Rattle.dg_label.proofs.FallenLaws.{same_more}
-use Rattle.dg_label.proofs.LabelLaws.{good_stands, good_within, has_place, have_bodies}
+use Rattle.dg_label.proofs.LabelLaws.{good_stands, good_within, have_bodies}
 use Rattle.dg_label.proofs.LeftLaws.{Opened, Ready, left_early, left_saved, left_torn, left_unopened, opened_by, opened_front, opened_none}
 use Rattle.dg_label.proofs.PassLaws.{bad_stays, good_fills, told_same, told_then}
 use Rattle.dg_model.specs.Members.{IsStruck, is_good}
-use Rattle.dg_model.specs.Saves.{HasBody, body_place, label_bytes, member_length, room_of}
+use Rattle.dg_model.specs.Saves.{HasBody, body_place, label_bytes, member_length}
 use Rattle.dg_model.specs.declared.shapes.Shape.{Shape}
 use Rattle.dg_pair.specs.declared.boundaries.ExtendAnswer.{ExtendAnswer}
 use Rattle.dg_pair.specs.declared.boundaries.ExtendAnswer.TheVariants as extended
@@ -133,16 +133,16 @@ module _ {R : Type 0} (rack : Ghosts R) where
       keeps
 
   -- where bodies are written
-  bodies_front : (a b : Store R) (body : List ℕ) (q : ℕ) → IsSound rack a → AreWhole rack a → length body ≤ room_of 2 (shape_of a)
+  bodies_front : (a b : Store R) (body : List ℕ) (q : ℕ) → IsSound rack a → HaveRoom rack a (length body)
       → Passes rack (2 * (shape_of a).b) (λ (q : ℕ). Patched (body_place (shape_of a)) body) a b
       → LeavesFallen rack (λ (q : ℕ). Torn (body_place (shape_of a)) (length body)) a b → BytesChange rack a b q (SameFront (shape_of a))
-  bodies_front a b body q sound whole room passes fallen = elim (cases_Bool (is_good (members_of a q))) [
+  bodies_front a b body q sound room passes fallen = elim (cases_Bool (is_good (members_of a q))) [
     | inl good ↦ elim (cases_Bool (is_good (members_of b q))) [
       | inl still ↦
           let within = good_within rack a q sound good in
           told_given (λ x. body_place (shape_of a) + length body ≤ length x) (Patched (body_place (shape_of a)) body) (SameFront (shape_of a))
           (rack.bytes (rack_of a) q) (rack.bytes (rack_of b) q) (λ x y fits put. front_patched (body_place (shape_of a)) body x y (omega (arith, fits)) put)
-          (has_place rack a body q whole room good) (passes.done q (omega (arith, within)) still)
+          (room q good) (passes.done q (omega (arith, within)) still)
       | inr gone ↦
           told_map (Torn (body_place (shape_of a)) (length body)) (SameFront (shape_of a)) (rack.bytes (rack_of a) q) (rack.bytes (rack_of b) q)
           (λ x y torn. torn.front) (fallen.fell q good gone)
@@ -199,8 +199,8 @@ module _ {R : Type 0} (rack : Ghosts R) where
   -- ---- the whole
 
   module _ (a b c d e : Store R) (before after : Option KeptLabel) (body : List ℕ) (sound : IsSound rack a) (opens : OpensSeal rack a b before after)
-      (keeps : KeepsArray rack b c) (whole : AreWhole rack c) (fronts : (q : ℕ) → BytesChange rack b c q KeepsFront)
-      (untouched : (q : ℕ) → is_good (members_of b q) ≡ false → BytesChange rack b c q IsSame) (room : length body ≤ room_of 2 (shape_of c))
+      (keeps : KeepsArray rack b c) (fronts : (q : ℕ) → BytesChange rack b c q KeepsFront)
+      (untouched : (q : ℕ) → is_good (members_of b q) ≡ false → BytesChange rack b c q IsSame) (room : HaveRoom rack c (length body))
       (bodies : Passes rack (2 * (shape_of c).b) (λ (q : ℕ). Patched (body_place (shape_of c)) body) c d)
       (bodies_fallen : LeavesFallen rack (λ (q : ℕ). Torn (body_place (shape_of c)) (length body)) c d)
       (labels : Passes rack (2 * (shape_of d).b) (λ (q : ℕ). Patched 0 (label_bytes (numbered (shape_of d) (saved_numbers before body) q))) d e)
@@ -241,13 +241,13 @@ module _ {R : Type 0} (rack : Ghosts R) where
         (opened_good a b before after q opens was good)
         (told_both (SameFront (shape_of a)) (SameFront (shape_of a)) (SameFront (shape_of a)) _ _ _ (λ x y z first next. next ∙ first)
         (longer_front (shape_of a) b c q opens.array.sound opens.array.stays.shape good (fronts q))
-        (subst (λ (sh : Shape). BytesChange rack c d q (SameFront sh)) shape_c (bodies_front c d body q keeps.sound whole room bodies bodies_fallen)))
+        (subst (λ (sh : Shape). BytesChange rack c d q (SameFront sh)) shape_c (bodies_front c d body q keeps.sound room bodies bodies_fallen)))
 
     -- it has the body where it is good still
     has_body : (q : ℕ) → is_good (members_of d q) ≡ true → IfSome (rack.bytes (rack_of d) q) (λ all. HasBody all (shape_of a) body)
     has_body q good =
         subst (λ (sh : Shape). IfSome (rack.bytes (rack_of d) q) (λ all. HasBody all sh body)) shape_d
-        (have_bodies rack c d keeps.sound body whole room bodies q good)
+        (have_bodies rack c d keeps.sound body room bodies q good)
 
     abbrev label : ℕ → List ℕ
     label q = page_of (shape_of a) (saved_numbers before body) q

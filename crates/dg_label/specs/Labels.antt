@@ -2,6 +2,7 @@
 use Rattle.std.specs.Prelude.{◌≡◌, ◌≢◌, ◌⊎◌, ◌+◌, ◌^◌, ◌<◌, ◌≤◌, ◌/◌, ◌==◌, ◌||◌, ℕ, Bool, take, true, false, Option, Some, None, IfSome, if◌then◌else◌, length}
 use Rattle.dg_io.specs.Commits.{is_marked}
 use Rattle.dg_io.specs.declared.outside.Rack.{Ghosts}
+use Rattle.dg_label.specs.Lines.{IsLineOf}
 use Rattle.dg_label.specs.declared.labels.KeptLabel.{KeptLabel}
 use Rattle.dg_model.specs.Blocks.{zeros}
 use Rattle.dg_model.specs.Members.{is_filling}
@@ -41,6 +42,10 @@ abbrev pub is_sealed : Option KeptLabel → Bool
 is_sealed None = false
 is_sealed (Some kept) = kept.sealed
 
+-- a label that is sealed has the numbers of an array of this shape
+abbrev pub HasOwnSeal : Shape → Option KeptLabel → Type 0
+HasOwnSeal shape label = is_sealed label ≡ true → IfSome label (AreNumbers shape)
+
 -- the label with its seal opened
 abbrev pub unsealed : Option KeptLabel → Option KeptLabel
 unsealed None = None
@@ -76,18 +81,25 @@ pub record NotesLong (q : ℕ) (before after : Option KeptLabel) : Type 0 where
   pub others : (p : ℕ) → p ≢ q → is_long after p ≡ is_long before p
   pub numbers : HaveSameNumbers before after
 
--- What holds between calls of a label beside an array: its numbers are in range, and each member that isn't out, and tells its bytes, is as
--- long as it says. One that is refilled was blanked by this array, so it is as long as format 2 says.
-pub record IsLabeled {R : Type 0} (rack : Ghosts R) (store : Store R) (label : Option KeptLabel) : Type 0 where
-  pub numbers : IfSome label (AreNumbers (shape_of store))
-  pub lengths : (q : ℕ) → members_of store q ≢ Out → IfSome (rack.bytes (rack_of store) q) (λ all. HasLength (shape_of store) label q (length all))
+-- What holds between calls of a label beside an array that was made with the numbers of the line: its own are in range, where it is sealed those
+-- of the boundaries in use; and each member that isn't out, and tells its bytes, is as long as it says of the line. One that is refilled was blanked
+-- by this array, so it is as long as format 2 says.
+pub record IsLabeled {R : Type 0} (rack : Ghosts R) (line : Shape) (store : Store R) (label : Option KeptLabel) : Type 0 where
+  pub fits : IsLineOf line (shape_of store)
+  pub numbers : IfSome label (AreNumbers line)
+  pub sealed : HasOwnSeal (shape_of store) label
+  pub lengths : (q : ℕ) → members_of store q ≢ Out → IfSome (rack.bytes (rack_of store) q) (λ all. HasLength line label q (length all))
   pub filling : (q : ℕ) → is_filling (members_of store q) ≡ true
-      → IfSome (rack.bytes (rack_of store) q) (λ all. length all ≡ member_length 2 (shape_of store))
+      → IfSome (rack.bytes (rack_of store) q) (λ all. length all ≡ member_length 2 line)
 
 -- A label of this array: it has the array's numbers, and each member has the number that it had.
 pub record IsOfArray (shape : Shape) (last : LastLabel) : Type 0 where
   pub shape_is : last.shape ≡ shape
   pub numbers_are : (q : ℕ) → last.numbers q ≡ q
+
+-- The label is of this array where it is sealed, and where all boundaries of the line are in use. An opened one may name boundaries that aren't.
+abbrev pub IsOfBoundariesInUse : Shape → Shape → LastLabel → Type 0
+IsOfBoundariesInUse line shape last = (last.sealed ≡ true) ⊎ (shape ≡ line) → IsOfArray shape last
 
 -- A member that isn't out, and doesn't keep the label, was made anew since: where a label would be it has zeros.
 abbrev pub AreFresh : {R : Type 0} → Ghosts R → Store R → Option LastLabel → Type 0
@@ -100,11 +112,12 @@ abbrev pub AreSized : {R : Type 0} → Ghosts R → Store R → LastLabel → Ty
 AreSized rack store last =
     (q : ℕ) → last.keepers q ≡ true → IfSome (rack.bytes (rack_of store) q) (λ all. saves.HasLength (label_on last q) (length all))
 
--- The label is the last one of the model, and the members that keep it, and tell their bytes, have it; none of them is refilled.
-pub record StandsLabeled {R : Type 0} (rack : Ghosts R) (store : Store R) (label : Option KeptLabel) (last : Option LastLabel) : Type 0 where
+-- The label is the last one of the model, and the members that keep it, and tell their bytes, have it; none of them is refilled. They are as long as
+-- it says where it names all boundaries of the line: those of one that names fewer are longer.
+pub record StandsLabeled {R : Type 0} (rack : Ghosts R) (line : Shape) (store : Store R) (label : Option KeptLabel) (last : Option LastLabel) : Type 0 where
   pub kept : IsKeptOf last label
   pub holds : IfSome last (λ label. HoldsLabel label (rack.bytes (rack_of store)))
-  pub sizes : IfSome last (AreSized rack store)
-  pub of_array : IfSome last (IsOfArray (shape_of store))
+  pub sizes : IfSome last (λ label. label.shape ≡ line → AreSized rack store label)
+  pub of_array : IfSome last (IsOfBoundariesInUse line (shape_of store))
   pub filling : (q : ℕ) → is_filling (members_of store q) ≡ true → keeps_label last q ≡ false
   pub fresh : AreFresh rack store last

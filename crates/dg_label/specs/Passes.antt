@@ -1,11 +1,12 @@
 -- What calls beside the slots leave of an array: one on a member, and one on each good member in turn.
-use Rattle.std.specs.Prelude.{◌≡◌, ◌≢◌, ◌≤◌, ◌<◌, ℕ, true, List, IfSome, length}
+use Rattle.std.specs.Prelude.{◌≡◌, ◌≢◌, ◌≤◌, ◌<◌, ◌+◌, ℕ, true, List, IfSome, length}
 use Rattle.dg_io.specs.Told.{IsSame}
 use Rattle.dg_io.specs.declared.outside.Rack.{Ghosts}
 use Rattle.dg_label.specs.Seals.{KeepsArray}
 use Rattle.dg_model.specs.Members.{is_filling, is_good}
-use Rattle.dg_model.specs.Saves.{member_length}
+use Rattle.dg_model.specs.Saves.{body_place, member_length}
 use Rattle.dg_model.specs.declared.members.MemberState.TheVariants.{Out}
+use Rattle.dg_model.specs.declared.shapes.Shape.{Shape}
 use Rattle.dg_store.specs.Leaves.{BytesChange, CallsAtMost, OnlyBytesOf}
 use Rattle.dg_store.specs.Stores.{members_of, rack_of, shape_of}
 use Rattle.dg_store.specs.declared.store.Store.{Store}
@@ -38,7 +39,12 @@ pub record IsUncalled {R : Type 0} (rack : Ghosts R) (q : ℕ) (old new : Store 
   pub faults : (rack.counts (rack_of new)).faults q ≡ (rack.counts (rack_of old)).faults q
   pub bytes : BytesChange rack old new q IsSame
 
--- each member that isn't out, and tells its bytes, is as long as format 2 says
-abbrev pub AreWhole : {R : Type 0} → Ghosts R → Store R → Type 0
-AreWhole rack store =
-    (q : ℕ) → members_of store q ≢ Out → IfSome (rack.bytes (rack_of store) q) (λ all. length all ≡ member_length 2 (shape_of store))
+-- each member that isn't out, and tells its bytes, is as long as format 2 says of an array of this shape
+abbrev pub AreWhole : {R : Type 0} → Ghosts R → Shape → Store R → Type 0
+AreWhole rack shape store =
+    (q : ℕ) → members_of store q ≢ Out → IfSome (rack.bytes (rack_of store) q) (λ all. length all ≡ member_length 2 shape)
+
+-- each good member that tells its bytes has room for so many behind its slots
+abbrev pub HaveRoom : {R : Type 0} → Ghosts R → Store R → ℕ → Type 0
+HaveRoom rack store size = (q : ℕ) → is_good (members_of store q) ≡ true
+    → IfSome (rack.bytes (rack_of store) q) (λ all. body_place (shape_of store) + size ≤ length all)

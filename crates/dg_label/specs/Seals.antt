@@ -10,6 +10,7 @@ use Rattle.dg_label.specs.declared.saves.SaveAnswer.TheVariants.{Lost, Saved}
 use Rattle.dg_model.specs.Members.{MembersFall, is_good}
 use Rattle.dg_model.specs.Seals.{LastLabel, label_after}
 use Rattle.dg_model.specs.States.{IsLeastLost}
+use Rattle.dg_model.specs.declared.shapes.Shape.{Shape}
 use Rattle.dg_store.specs.Leaves.{BytesChange, CallsAtMost, HasWritten, KeepsOut, PutsOut, Stays}
 use Rattle.dg_store.specs.Stores.{IsSound, KeepsBlocks, members_of, rack_of, shape_of, table_of}
 use Rattle.dg_store.specs.declared.store.Store.{Store}
@@ -40,14 +41,14 @@ pub record OpensMembers {R : Type 0} (rack : Ghosts R) (kept : KeptLabel) (old n
   pub bad : (q : ℕ) → is_good (members_of old q) ≡ false → BytesChange rack old new q IsSame
 
 -- The seal was opened: on each member that was good and still is, the label stands with its seal opened. Where it wasn't sealed, nothing
--- was done. Where some member was good, a call that writes was made, also where it failed.
+-- was done. Where some member was good, a call that writes was made, also where it failed. The label stays that of an array of the line, whatever this is.
 pub record OpensSeal {R : Type 0} (rack : Ghosts R) (old new : Store R) (before after : Option KeptLabel) : Type 0 where
   pub array : KeepsArray rack old new
-  pub labeled : IsLabeled rack new after
+  pub labeled : (line : Shape) → IsLabeled rack line old before → IsLabeled rack line new after
   pub after_is : after ≡ unsealed before
   pub quiet : is_sealed before ≡ false → new ≡ old
-  pub stands : (last : Option LastLabel) → is_sealed before ≡ true → StandsLabeled rack old before last
-      → StandsLabeled rack new after (label_after true (members_of old) (members_of new) last)
+  pub stands : (line : Shape) (last : Option LastLabel) → IsLabeled rack line old before → is_sealed before ≡ true
+      → StandsLabeled rack line old before last → StandsLabeled rack line new after (label_after true (members_of old) (members_of new) last)
   pub members : (kept : KeptLabel) → before ≡ Some kept → kept.sealed ≡ true → OpensMembers rack kept old new
   pub wrote : is_sealed before ≡ true → HasGood old → HasWritten rack old new
   pub most : CallsAtMost rack old new (2 * (shape_of old).b)
@@ -65,10 +66,10 @@ saved_label store sequence body = record {
   numbers = λ q. q;
 }
 
--- By the answer: wherever an array stood with its label, each good member has the body and the label now, sealed, under the next number; or
+-- By the answer: wherever an array of the line stood with its label, each good member has the body and the label now, sealed, under the next number; or
 -- none is good, and of the label the numbers stay.
-abbrev pub AnswersSave : {R : Type 0} → Ghosts R → List ℕ → Store R → Store R → Option KeptLabel → Option KeptLabel → SaveAnswer → Type 0
-AnswersSave rack body old new before after (Saved sequence) =
+abbrev pub AnswersSave : {R : Type 0} → Ghosts R → Shape → List ℕ → Store R → Store R → Option KeptLabel → Option KeptLabel → SaveAnswer → Type 0
+AnswersSave rack line body old new before after (Saved sequence) =
     HasGood new × (sequence ≡ next_number before)
-    × ((last : Option LastLabel) → StandsLabeled rack old before last → StandsLabeled rack new after (Some (saved_label new sequence body)))
-AnswersSave rack body old new before after (Lost s) = HasNoGood new × IsLeastLost (shape_of new) (members_of new) s × (after ≡ before)
+    × ((last : Option LastLabel) → StandsLabeled rack line old before last → StandsLabeled rack line new after (Some (saved_label new sequence body)))
+AnswersSave rack line body old new before after (Lost s) = HasNoGood new × IsLeastLost (shape_of new) (members_of new) s × (after ≡ before)

@@ -3,7 +3,9 @@
 #![tactic(auto)]
 
 mod labels;
+mod laws;
 mod passes;
+mod places;
 mod saves;
 mod seals;
 #[cfg(test)]
@@ -11,5 +13,7 @@ mod tests;
 
 pub use dg_io::NoMemory;
 pub use labels::{KeptLabel, note_long, with_bit};
+pub use laws::labels_are_left;
+pub use places::keep_left;
 pub use saves::{SaveAnswer, save};
 pub use seals::open_seal;

@@ -4,18 +4,19 @@ ghost use Rattle.dg_io.specs.Told.{Extended, IsSame, KeepsFront, Patched, Torn};
 ghost use Rattle.dg_label.specs.Labels.{AreNumbers, HasLength, IsLabeled};
 ghost use Rattle.dg_label.specs.Labels.{is_long as is_long_under};
 ghost use Rattle.dg_label.specs.Pages.{LeavesFallen, PageFails, numbered, page_of};
-ghost use Rattle.dg_label.specs.Passes.{AreWhole, FillingStay, IsUncalled, Passes, Touches};
+ghost use Rattle.dg_label.specs.Passes.{AreWhole, FillingStay, HaveRoom, IsUncalled, Passes, Touches};
 ghost use Rattle.dg_label.specs.Saves.{short_members};
 ghost use Rattle.dg_label.specs.Seals.{HasGood, HasNoGood, KeepsArray};
 ghost use Rattle.dg_model.specs.Members.{is_good};
-ghost use Rattle.dg_model.specs.Saves.{body_place as place_of_body, label_bytes, member_length as length_of, room_of};
+ghost use Rattle.dg_model.specs.Saves.{body_place as place_of_body, label_bytes, member_length as length_of};
+ghost use Rattle.dg_model.specs.Shapes.{IsShape};
 ghost use Rattle.dg_store.specs.Leaves.{BytesChange, CallsAtMost, HasWritten};
 ghost use Rattle.dg_store.specs.Stores.{IsSound, members_of, rack_of, shape_of};
 
 use crate::labels::{KeptLabel, is_long};
 use dg_io::Rack;
 use dg_save::{LABEL_BYTES, Label, body_place, member_length, write_label};
-use dg_store::{NoteAnswer, Store};
+use dg_store::{NoteAnswer, Shape, Store};
 
 /// Writes the label of these numbers on a member, where it is good. Whether it has it.
 fn write_label_on<R: Rack>(store: &mut Store<R>, member: u8, kept: &KeptLabel) -> bool
@@ -80,8 +81,7 @@ fn write_body_on<R: Rack>(store: &mut Store<R>, member: u8, body: &[u8])
 /// Writes the body behind the slots of each good member.
 pub fn write_bodies<R: Rack>(store: &mut Store<R>, body: &[u8])
     requires sound { IsSound R.Rack store.old }
-    requires whole { AreWhole R.Rack store.old }
-    requires room { length body.now ≤ room_of 2 (shape_of store.old) }
+    requires room { HaveRoom R.Rack store.old (length body.now) }
     ensures passes { Passes R.Rack (2 * (shape_of store.old).b) (λ q. Patched (place_of_body (shape_of store.old)) body.now) store.old store.new }
     ensures fallen { LeavesFallen R.Rack (λ q. Torn (place_of_body (shape_of store.old)) (length body.now)) store.old store.new }
 {
@@ -90,13 +90,14 @@ pub fn write_bodies<R: Rack>(store: &mut Store<R>, body: &[u8])
     }
 }
 
-/// Makes a member as long as format 2 says, where it is good. One that is so long already isn't called.
-fn lengthen_one<R: Rack>(store: &mut Store<R>, label: &Option<KeptLabel>, member: u8)
+/// Makes a member as long as format 2 says of an array of the line, where it is good. One that is so long already isn't called.
+fn lengthen_one<R: Rack>(store: &mut Store<R>, line: &Shape, label: &Option<KeptLabel>, member: u8)
     requires sound { IsSound R.Rack store.old }
     requires member { member < 2 * (shape_of store.old).b }
+    requires line { IsShape line.now }
     requires length { is_good (members_of store.old member) ≡ true
-        → IfSome (R.bytes (rack_of store.old) member) (λ all. HasLength (shape_of store.old) label.now member (length all)) }
-    ensures touches { Touches R.Rack member (Extended (length_of 2 (shape_of store.old))) store.old store.new }
+        → IfSome (R.bytes (rack_of store.old) member) (λ all. HasLength line.now label.now member (length all)) }
+    ensures touches { Touches R.Rack member (Extended (length_of 2 line.now)) store.old store.new }
     ensures fallen { LeavesFallen R.Rack (λ q. KeepsFront) store.old store.new }
     ensures uncalled { (q : ℕ) → is_good (members_of store.old q) ≡ true → (q ≡ member → is_long_under label.now member ≡ true)
         → IsUncalled R.Rack q store.old store.new }
@@ -105,23 +106,23 @@ fn lengthen_one<R: Rack>(store: &mut Store<R>, label: &Option<KeptLabel>, member
     if is_long(label, member) {
         return;
     }
-    let size = member_length(store.shape(), 2);
+    let size = member_length(line, 2);
     let _ = store.extend(member / 2, member % 2, size);
 }
 
-/// Makes each good member as long as format 2 says. Those that are so long already aren't called.
-pub fn lengthen<R: Rack>(store: &mut Store<R>, label: &Option<KeptLabel>)
+/// Makes each good member as long as format 2 says of an array of the line. Those that are so long already aren't called.
+pub fn lengthen<R: Rack>(store: &mut Store<R>, line: &Shape, label: &Option<KeptLabel>)
     requires sound { IsSound R.Rack store.old }
-    requires labeled { IsLabeled R.Rack store.old label.now }
+    requires labeled { IsLabeled R.Rack line.now store.old label.now }
     ensures array { KeepsArray R.Rack store.old store.new }
     ensures filling { FillingStay R.Rack store.old store.new }
-    ensures whole { AreWhole R.Rack store.new }
+    ensures whole { AreWhole R.Rack line.now store.new }
     ensures fronts { (q : ℕ) → BytesChange R.Rack store.old store.new q KeepsFront }
     ensures untouched { (q : ℕ) → is_good (members_of store.old q) ≡ false → BytesChange R.Rack store.old store.new q IsSame }
     ensures uncalled { (q : ℕ) → is_good (members_of store.old q) ≡ true → is_long_under label.now q ≡ true → IsUncalled R.Rack q store.old store.new }
     ensures most { CallsAtMost R.Rack store.old store.new (short_members label.now (2 * (shape_of store.old).b)) }
 {
     for member in 0..2 * store.shape().b {
-        lengthen_one(store, label, member);
+        lengthen_one(store, line, label, member);
     }
 }

@@ -13,7 +13,7 @@ use crate::labels::{KeptLabel, number_after};
 use crate::passes::{lengthen, write_bodies, write_labels};
 use crate::seals::open_seal;
 use dg_io::{NoMemory, Rack};
-use dg_store::Store;
+use dg_store::{Shape, Store};
 
 /// What became of a save.
 #[derive(Clone, Copy, Debug, PartialEq, Eq)]
@@ -31,17 +31,22 @@ const PAST_NUMBERS: u64 = 1 << 63;
 /// sealed, and a member that is too short is made longer. On each member this is the order, also on one that falls: the new label stands above
 /// the new body alone, and the sealed one stays only where its opening failed and nothing else was written. The slots stay. A number that is no
 /// label's (2^63) is answered as want of memory, and nothing is done.
+///
+/// The line has the numbers with which the array was made: members are as long as these say. Boundaries may be out of use since; the label and the
+/// body are those of the boundaries in use, under their places. Whether such an array may be saved the caller knows: its members are longer than the
+/// label says, so they are found again only over a rack that tells their bytes up to there.
 pub fn save<R: Rack>(
     store: &mut Store<R>,
+    line: &Shape,
     label: &mut Option<KeptLabel>,
     body: &[u8],
 ) -> Result<SaveAnswer, NoMemory>
     requires sound { IsSound R.Rack store.old }
-    requires labeled { IsLabeled R.Rack store.old label.old }
+    requires labeled { IsLabeled R.Rack line.now store.old label.old }
     requires body { length body.now ≤ room_of 2 (shape_of store.old) }
     ensures array { KeepsArray R.Rack store.old store.new }
-    ensures labeled { IsLabeled R.Rack store.new label.new }
-    ensures answer { IfOk result (AnswersSave R.Rack body.now store.old store.new label.old label.new) }
+    ensures labeled { IsLabeled R.Rack line.now store.new label.new }
+    ensures answer { IfOk result (AnswersSave R.Rack line.now body.now store.old store.new label.old label.new) }
     ensures members { IfOk result (λ answer. LeavesMembers R.Rack body.now label.old store.old store.new) }
     ensures untouched { (q : ℕ) → is_good (members_of store.old q) ≡ false → BytesChange R.Rack store.old store.new q IsSame }
     ensures most { CallsAtMost R.Rack store.old store.new (save_calls (shape_of store.old).b label.old) }
@@ -60,7 +65,7 @@ pub fn save<R: Rack>(
     };
     let mut opened = *label;
     open_seal(store, &mut opened);
-    lengthen(store, &opened);
+    lengthen(store, line, &opened);
     // Each member has the body before the first label says so.
     write_bodies(store, body);
     if !write_labels(store, &kept) {

@@ -1,7 +1,7 @@
 // Opening a seal.
-ghost use Rattle.dg_label.specs.Labels.{IsLabeled};
+ghost use Rattle.dg_label.specs.Labels.{HasOwnSeal};
 ghost use Rattle.dg_label.specs.Seals.{OpensSeal};
-ghost use Rattle.dg_store.specs.Stores.{IsSound};
+ghost use Rattle.dg_store.specs.Stores.{IsSound, shape_of};
 
 use crate::labels::KeptLabel;
 use crate::passes::write_labels;
@@ -12,7 +12,7 @@ use dg_store::Store;
 /// has changed.
 pub fn open_seal<R: Rack>(store: &mut Store<R>, label: &mut Option<KeptLabel>)
     requires sound { IsSound R.Rack store.old }
-    requires labeled { IsLabeled R.Rack store.old label.old }
+    requires seal { HasOwnSeal (shape_of store.old) label.old }
     ensures { OpensSeal R.Rack store.old store.new label.old label.new }
 {
     let Some(kept) = *label else {

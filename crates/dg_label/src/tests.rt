@@ -2,7 +2,7 @@
 ghost use Rattle.std.specs.Prelude.{◌≡◌, None, IfOk};
 ghost use Rattle.dg_label.specs.Labels.{IsLabeled};
 ghost use Rattle.dg_model.specs.Shapes.{IsShape};
-ghost use Rattle.dg_store.specs.Stores.{IsSound, shape_of};
+ghost use Rattle.dg_store.specs.Stores.{IsSound};
 
 use super::*;
 use dg_io::{MemRack, Rack};
@@ -15,18 +15,18 @@ use std::test::Fail;
 fn array<R: Rack + Drop>(alloc: Global, rack: R, shape: Shape) -> Result<Store<R>, NoMemory>
     requires { IsShape shape }
     ensures sound { IfOk result (λ store. IsSound R.Rack store) }
-    ensures labeled { IfOk result (λ store. IsLabeled R.Rack store None) }
+    ensures labeled { IfOk result (λ store. IsLabeled R.Rack shape store None) }
 {
     Store::new(alloc, rack, shape)
 }
 
 // A label of format 1, beneath which each member is as long as format 2 says.
-fn first_form<R: Rack>(store: &Store<R>) -> Option<KeptLabel>
+fn first_form<R: Rack>(store: &Store<R>, line: &Shape) -> Option<KeptLabel>
     requires sound { IsSound R.Rack store.now }
-    requires labeled { IsLabeled R.Rack store.now None }
-    ensures { IsLabeled R.Rack store.now result }
+    requires labeled { IsLabeled R.Rack line.now store.now None }
+    ensures { IsLabeled R.Rack line.now store.now result }
 {
-    let _shape = store.shape();
+    let _shape = (store.shape(), line.b);
     Some(KeptLabel {
         format: 1,
         sequence: 1,
@@ -39,15 +39,16 @@ fn first_form<R: Rack>(store: &Store<R>) -> Option<KeptLabel>
 // Saves a body of four bytes.
 fn save_four<R: Rack>(
     store: &mut Store<R>,
+    line: &Shape,
     label: &mut Option<KeptLabel>,
     body: &[u8; 4],
 ) -> Option<SaveAnswer>
     requires sound { IsSound R.Rack store.old }
-    requires labeled { IsLabeled R.Rack store.old label.old }
+    requires labeled { IsLabeled R.Rack line.now store.old label.old }
     ensures sound { IsSound R.Rack store.new }
-    ensures labeled { IsLabeled R.Rack store.new label.new }
+    ensures labeled { IsLabeled R.Rack line.now store.new label.new }
 {
-    save(store, label, body).ok()
+    save(store, line, label, body).ok()
 }
 
 // Twenty bytes of a member, where it has so many from this place on.
@@ -85,7 +86,7 @@ fn run(
         return Err("store".into());
     };
     let mut label = None;
-    let first = save_four(&mut store, &mut label, b"kept");
+    let first = save_four(&mut store, &shape, &mut label, b"kept");
     if until == Until::Saved {
         return Ok((first, label, store.into_rack()));
     }
@@ -93,7 +94,7 @@ fn run(
     if until == Until::Opened {
         return Ok((first, label, store.into_rack()));
     }
-    let second = save_four(&mut store, &mut label, b"more");
+    let second = save_four(&mut store, &shape, &mut label, b"more");
     Ok((second, label, store.into_rack()))
 }
 
@@ -171,8 +172,8 @@ fn run_first(alloc: Global, fails: Vec<u64>) -> Result<(Option<SaveAnswer>, MemR
     let Ok(mut store) = array(alloc, rack, shape) else {
         return Err("store".into());
     };
-    let mut label = first_form(&store);
-    let answer = save_four(&mut store, &mut label, b"kept");
+    let mut label = first_form(&store, &shape);
+    let answer = save_four(&mut store, &shape, &mut label, b"kept");
     Ok((answer, store.into_rack()))
 }
 
@@ -190,5 +191,29 @@ fn long_members_are_not_extended(rt: HostRuntime) -> Result<(), Fail> {
         twenty_at(&mut rack, 3, 2048),
         Some(*b"kept\0\0\0\0\0\0\0\0\0\0\0\0\0\0\0\0")
     );
+    Ok(())
+}
+
+#[test]
+fn bits_go_to_new_places(rt: HostRuntime) -> Result<(), Fail> {
+    // Members 1, 4 and 5 of three boundaries are long.
+    for (lost, long) in [
+        (0, 0b110010),
+        (0b001, 0b1100),
+        (0b010, 0b1110),
+        (0b100, 0b0010),
+        (0b111, 0),
+    ] {
+        let mut label = Some(KeptLabel {
+            format: 1,
+            sequence: 1,
+            sealed: false,
+            body: 0,
+            long: 0b110010,
+        });
+        keep_left(&mut label, lost, 3);
+        let kept = label.ok_or("label")?;
+        assert_eq!(rt; kept.long, long);
+    }
     Ok(())
 }

@@ -5,6 +5,7 @@ use Rattle.std.proofs.lemmas.Bool.{and_parts, both_ways, cases_Bool, cases_eq, e
 use Rattle.dg_io.specs.declared.outside.Rack.{Ghosts}
 use Rattle.dg_label.specs.Labels.{AreNumbers, AreNumbersOf, HasLength, IsLabeled, StandsLabeled, is_long}
 use Rattle.dg_io.specs.Commits.{is_marked as has_bit}
+use Rattle.dg_label.specs.LineLaws.{line_itself}
 use Rattle.dg_label.specs.declared.labels.KeptLabel.{KeptLabel}
 use Rattle.dg_model.specs.Members.{is_filling, is_good}
 use Rattle.dg_model.specs.Openings.{Found, HasOwnLabel, MayBeGood, Says}
@@ -159,9 +160,11 @@ module _ {R : Type 0} (rack : Ghosts R) (before start : R) (table : List (Option
       subst (λ (found : Option Label). IfSome found (IsMeasured rack now q (has_bit long q))) counted.there
       (measured_on rack start now q (has_bit long q) (label_at table q) (measures q (low q counted)) leaves)
 
-  is_labeled : IsLabeled rack reopened.store (Some reopened.label)
+  is_labeled : IsLabeled rack (shape_of reopened.store) reopened.store (Some reopened.label)
   is_labeled = record {
+    fits = line_itself (shape_of reopened.store) sound.table.shape;
     numbers = numbers;
+    sealed = λ sealed. numbers;
     lengths = λ q not.
         let counted = when_in _ (members_of reopened.store q) (members q) not in
         if_both (λ all. HasOwnLabel q all (label_of (record label { boundary = q / 2; side = q % 2 }))) (λ all. has_bit long q ≡ (length all == member_length 2 label.shape))
@@ -171,15 +174,15 @@ module _ {R : Type 0} (rack : Ghosts R) (before start : R) (table : List (Option
     filling = λ q filling. absurd (never_filling _ (members_of reopened.store q) (members q) filling);
   }
 
-  stands : StandsLabeled rack reopened.store (Some reopened.label) (Some last)
+  stands : StandsLabeled rack (shape_of reopened.store) reopened.store (Some reopened.label) (Some last)
   stands = record {
     kept = kept;
     holds = record {
       label = begins;
       body = λ q has sealed_last. has_body q has;
     };
-    of_array = record { shape_is = sym shape_is; numbers_are = λ q. refl };
-    sizes = sized;
+    of_array = λ why. record { shape_is = sym shape_is; numbers_are = λ q. refl };
+    sizes = λ all_named. sized;
     filling = λ q filling. absurd (never_filling _ (members_of reopened.store q) (members q) filling);
     fresh = λ q within not none. elim (members q) [
       | inl good ↦ absurd (both_ways (is_good (members_of reopened.store q)) none (ap is_good good.0))

@@ -15,7 +15,7 @@ use Rattle.dg_open.specs.declared.reopens.ReopenAnswer.{ReopenAnswer}
 use Rattle.dg_open.specs.declared.reopens.ReopenAnswer.TheVariants.{NoState, Found as IsFound, Unclean}
 use Rattle.dg_open.specs.declared.reopens.Reopened.{Reopened}
 use Rattle.dg_save.specs.States.{state_of}
-use Rattle.dg_store.specs.Stores.{IsSound, members_of, rack_of, table_of}
+use Rattle.dg_store.specs.Stores.{IsSound, members_of, rack_of, shape_of, table_of}
 use Rattle.dg_store.specs.declared.store.Store.{Store}
 
 -- What finding and reading members leaves of a rack: it is the same, no count fell, nothing was written, each member that tells its bytes has
@@ -48,7 +48,7 @@ opened_label source label saved store = record {
 
 -- An array was opened from what was taken: it has the sites that its source says; a member is good only where it has the same label and the
 -- source says so, and a member of which that holds is out only where its count of faults rose, and always there. The label stands on each
--- good member; whether the body of the source stands beside it isn't looked at on the other ones.
+-- good member; whether the body of the source stands beside it isn't looked at on the other ones. All boundaries that it names are in use.
 pub record HasReopened {R : Type 0} (rack : Ghosts R) (before : R) (reopened : Reopened R) : Type 0 where
   pub taken : ℕ → Option Found
   pub source : ℕ
@@ -64,8 +64,8 @@ pub record HasReopened {R : Type 0} (rack : Ghosts R) (before : R) (reopened : R
   pub fell : (q : ℕ) → (rack.counts before).faults q < (rack.counts (rack_of reopened.store)).faults q → members_of reopened.store q ≡ Out
   pub body : length (body_of label.format (state_of reopened.saved)) ≡ label.body
   pub sound : IsSound rack reopened.store
-  pub labeled : IsLabeled rack reopened.store (Some reopened.label)
-  pub stands : StandsLabeled rack reopened.store (Some reopened.label) (Some (opened_label source label (state_of reopened.saved) reopened.store))
+  pub labeled : IsLabeled rack (shape_of reopened.store) reopened.store (Some reopened.label)
+  pub stands : StandsLabeled rack (shape_of reopened.store) reopened.store (Some reopened.label) (Some (opened_label source label (state_of reopened.saved) reopened.store))
   pub leaves : LeavesRead rack before (rack_of reopened.store)
 
 -- no member that counts with the greatest number says a state, and none of them is opened

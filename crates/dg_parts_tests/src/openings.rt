@@ -159,7 +159,8 @@ fn saved<R: Rack + Drop>(alloc: Global, rack: R) -> Result<u8, NoMemory> {
         ..
     } = reopened;
     let mut label = Some(label);
-    save(&mut store, &mut label, &[0; 4])?;
+    let line = *store.shape();
+    save(&mut store, &line, &mut label, &[0; 4])?;
     Ok(goods(&store))
 }
 

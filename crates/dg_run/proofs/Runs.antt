@@ -150,6 +150,8 @@ module _ {R : Type 0} (rack : Ghosts R) where
   goes_none a sound = record {
     well = sound;
     shape = refl;
+    boundaries = refl;
+    line = refl;
     rise = record { faults = λ q. omega arith; calls = omega arith; writes = omega arith };
     tells = λ q h. h;
     told_before = λ q h. h;
@@ -161,6 +163,8 @@ module _ {R : Type 0} (rack : Ghosts R) where
   goes_then a b c first second = record {
     well = second.well;
     shape = second.shape ∙ first.shape;
+    boundaries = second.boundaries ∙ first.boundaries;
+    line = second.line ∙ first.line;
     rise = record {
       faults = λ q. let early = first.rise.faults q in let late = second.rise.faults q in omega arith;
       calls = omega (arith, first.rise.calls, second.rise.calls);

@@ -73,6 +73,8 @@ module _ {R : Type 0} (rack : Ghosts R) (before : R) (volume : Volume AnyPhase R
   stays = record {
     well = opened.well;
     shape = refl;
+    boundaries = refl;
+    line = refl;
     rise = record { faults = λ q. omega arith; calls = omega arith; writes = omega arith };
     tells = λ q told. told;
     told_before = λ q told. told;

@@ -3,10 +3,10 @@ use Rattle.std.proofs.Common.{◌≡◌, ◌≢◌, ◌∙◌, ◌≤◌, ◌/�
 use Rattle.std.specs.Prelude.{IfSome, None, Option, Some, replicate, take}
 use Rattle.std.proofs.lemmas.Bool.{cases_lt, false≢true}
 use Rattle.std.proofs.lemmas.List.{length-replicate, take-replicate}
-use Rattle.dg_infer.specs.Meanings.{KeptInference}
 use Rattle.dg_infer.specs.Meanings as inferences
 use Rattle.dg_io.specs.declared.outside.Rack.{Ghosts}
 use Rattle.dg_label.specs.Labels.{AreFresh, HasLength, IsLabeled, StandsLabeled}
+use Rattle.dg_label.specs.LineLaws.{line_itself}
 use Rattle.dg_label.specs.declared.labels.KeptLabel.{KeptLabel}
 use Rattle.dg_model.specs.Blocks.{zeros}
 use Rattle.dg_model.specs.Lives.{all_live}
@@ -24,7 +24,7 @@ use Rattle.dg_store.specs.declared.store.Store.{Store}
 use Rattle.dg_volume.proofs.FaultLaws.{blank_beyond, blank_fell}
 use Rattle.dg_volume.proofs.PlaceLaws.{fits_all}
 use Rattle.dg_volume.specs.Origins.{Always}
-use Rattle.dg_volume.specs.Volumes.{IsBlankVolume, StandsIn, cut_of, live_of, loose_phase, members_of, rack_of, reduced_of, shape_of, table_of}
+use Rattle.dg_volume.specs.Volumes.{IsBlankVolume, StandsIn, cut_of, line_of, live_of, loose_phase, members_of, rack_of, reduced_of, shape_of, table_of}
 use Rattle.dg_volume.specs.declared.phases.Loose.{Loose}
 use Rattle.dg_volume.specs.declared.volumes.Volume.{Volume}
 
@@ -70,11 +70,17 @@ module _ {R : Type 0} (rack : Ghosts R) (shape : Shape) (before : R) (store : St
       none None zeroed = tt
       none (Some all) zeroed = ap (λ (xs : List ℕ). take 512 xs) zeroed ∙ take-replicate 512 (member_length 2 shape) 0 (omega arith)
 
-  pub blank_unlabeled : StandsLabeled rack store None None
+  pub blank_unlabeled : StandsLabeled rack (stores.shape_of store) store None None
   blank_unlabeled = record { kept = tt; holds = tt; sizes = tt; of_array = tt; filling = λ q fills. refl; fresh = blank_fresh }
 
-  pub blank_labeled : IsLabeled rack store None
-  blank_labeled = record { numbers = tt; lengths = lengths; filling = none_filling }
+  pub blank_labeled : IsLabeled rack (stores.shape_of store) store None
+  blank_labeled = record {
+    fits = line_itself (stores.shape_of store) blank.sound.table.shape;
+    numbers = tt;
+    sealed = λ sealed. absurd (false≢true sealed);
+    lengths = lengths;
+    filling = none_filling;
+  }
 
 -- What is inferred of a blank volume, and that it has no homes.
 pub record IsPlain {R : Type 0} (shape : Shape) (volume : Volume Loose R) : Type 0 where
@@ -86,6 +92,7 @@ pub record IsPlain {R : Type 0} (shape : Shape) (volume : Volume Loose R) : Type
   pub homes : volume.homes ≡ []
   pub copies : volume.copies ≡ []
   pub boundaries : volume.in_use.boundaries ≡ shape.b
+  pub long : volume.in_use.long ≡ shape.b
   pub live : live_of volume ≡ all_live shape.b
   pub cut : cut_of volume ≡ replicate shape.n false
   pub label : volume.label ≡ None
@@ -94,6 +101,10 @@ pub record IsPlain {R : Type 0} (shape : Shape) (volume : Volume Loose R) : Type
 module _ {R : Type 0} (rack : Ghosts R) (shape : Shape) (before : R) (volume : Volume Loose R) (blank : IsBlankStore rack shape before volume.store) (plain : IsPlain shape volume) where
   same_shape : shape_of volume ≡ shape
   same_shape = ap (λ (t : Table). t.shape) blank.table
+
+  -- members are as long by its own numbers
+  own_line : shape_of volume ≡ line_of volume
+  own_line i = record (shape_of volume) { b = (ap (λ (s : Shape). s.b) same_shape ∙ sym plain.long) i }
 
   -- the state of the blank array
   start : State
@@ -111,7 +122,9 @@ module _ {R : Type 0} (rack : Ghosts R) (shape : Shape) (before : R) (volume : V
       homes = sym plain.homes i;
       copies = sym plain.copies i;
     };
-    label = subst (λ (k : Option KeptLabel). StandsLabeled rack volume.store k None) (sym plain.label) (blank_unlabeled rack shape before volume.store blank);
+    label =
+        subst (λ (x : Shape). StandsLabeled rack x volume.store volume.label None) own_line
+        (subst (λ (k : Option KeptLabel). StandsLabeled rack (shape_of volume) volume.store k None) (sym plain.label) (blank_unlabeled rack shape before volume.store blank));
     holds = λ told. record { array = blank.stands; inferred = plain.inferred };
   }
 
@@ -139,7 +152,9 @@ module _ {R : Type 0} (rack : Ghosts R) (shape : Shape) (before : R) (volume : V
       levels = plain.levels ∙ sym (ap (λ (s : Shape). s.l) same_shape);
       marks = ap length plain.pending ∙ length-replicate shape.n false ∙ sym (ap (λ (s : Shape). s.n) same_shape);
       inferred = record { bytes = plain.bytes ∙ sym (ap (λ (s : Shape). s.l) same_shape); number = plain.number ∙ sym (ap (λ (s : Shape). s.n) same_shape) };
-      labeled = subst (λ (k : Option KeptLabel). IsLabeled rack volume.store k) (sym plain.label) (blank_labeled rack shape before volume.store blank);
+      labeled =
+          subst (λ (x : Shape). IsLabeled rack x volume.store volume.label) own_line
+          (subst (λ (k : Option KeptLabel). IsLabeled rack (shape_of volume) volume.store k) (sym plain.label) (blank_labeled rack shape before volume.store blank));
       in_use = in_use_all;
       homes_are = subst (λ (x : List Home). AreHomes (shape_of volume) x) (sym plain.homes) (no_homes (shape_of volume));
       few_homes = subst (λ (x : List Home). length x ≤ (shape_of volume).n) (sym plain.homes) (omega arith);

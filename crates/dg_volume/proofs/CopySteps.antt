@@ -9,7 +9,6 @@ use Rattle.dg_hot.specs.declared.spreads.DiffuseAnswer.TheVariants.{Diffused, Lo
 use Rattle.dg_infer.specs.Meanings.{KeptInference}
 use Rattle.dg_infer.specs.Meanings as inferences
 use Rattle.dg_io.specs.declared.outside.Rack.{Ghosts}
-use Rattle.dg_label.specs.Labels.{StandsLabeled}
 use Rattle.dg_model.specs.Changes.{Spreads}
 use Rattle.dg_model.specs.Copies.{lacks_copy, spread_over}
 use Rattle.dg_model.specs.Homes.{home_of}
@@ -34,13 +33,14 @@ use Rattle.dg_volume.proofs.HomeLaws.{are_homes}
 use Rattle.dg_volume.proofs.PlacedLaws.{off_table}
 use Rattle.dg_store.specs.Answers.{SameWritten}
 use Rattle.dg_volume.proofs.UseLaws.{fits_same, least_here, least_on}
-use Rattle.dg_volume.proofs.VolumeLaws.{Labels, StepsAt, label_by, on_label}
+use Rattle.dg_volume.proofs.VolumeLaws.{Labels, StepsAt, label_by, labeled_by, line_same, on_label, under_by}
 use Rattle.dg_volume.specs.Origins.{Origin, WasHeld}
 use Rattle.dg_volume.specs.Copies.{StepsHot, diffuse_reply}
 use Rattle.dg_volume.specs.Numbers.{diffused_by}
 use Rattle.dg_volume.specs.Planned.{AreWanted, HasMovedArray}
 use Rattle.dg_volume.specs.Settles.{KeepsArray}
-use Rattle.dg_volume.specs.Volumes.{AreWantsBy, FitsArray, IsInPlace, IsWell, Known, Leaves, StandsFor, StandsIn, live_of, marks_by, marks_of, members_of, rack_of, shape_of, state_of, table_of}
+use Rattle.dg_volume.specs.Volumes.{AreWantsBy, FitsArray, IsInPlace, IsWell, Known, Leaves, StandsFor, StandsIn, StandsUnder, line_of, live_of, marks_by, marks_of, members_of, rack_of, shape_of, state_of, table_of}
+use Rattle.dg_volume.specs.declared.in_use.InUse.{InUse}
 use Rattle.dg_volume.specs.declared.phases.InPhase as phases
 use Rattle.dg_volume.specs.declared.volumes.Volume.{Volume}
 
@@ -153,6 +153,9 @@ module _ {S R : Type 0} (phase : phases.Ghosts S) (rack : Ghosts R) where
     same_marks : marks_of phase b ≡ marks_of phase a
     same_marks i = marks_by (phase.kept (h.phase_is i)) ((h.pending i).items)
 
+    line : line_of b ≡ line_of a
+    line = line_same a b (ap (λ (u : InUse). u.long) h.in_use) same_shape
+
     still : phase.phase b.phase ≡ SettledPhase
     still = ap phase.phase h.phase_is ∙ h.settled
 
@@ -167,7 +170,7 @@ module _ {S R : Type 0} (phase : phases.Ghosts S) (rack : Ghosts R) where
             levels = h.levels ∙ well.levels ∙ sym (ap (λ (x : Shape). x.l) same_shape);
             marks = ap length same_marks ∙ well.marks ∙ sym (ap (λ (x : Shape). x.n) same_shape);
             inferred = subst (λ (p : S). IfSome (phase.kept p) (FitsArray (shape_of b))) (sym h.phase_is) fits;
-            labeled = h.labels.labeled;
+            labeled = labeled_by rack a b line h.labels well.labeled;
             in_use = fits_same a b h.in_use same_shape h.written well.in_use;
             homes_are = subst (λ (x : List Home). AreHomes (shape_of b) x) (sym h.homes) homes;
             few_homes =
@@ -179,6 +182,8 @@ module _ {S R : Type 0} (phase : phases.Ghosts S) (rack : Ghosts R) where
             settled = λ settled. in_place;
           };
           shape = same_shape;
+          boundaries = ap (λ (u : InUse). u.boundaries) h.in_use;
+          line = line;
           rise = h.moved.stays.stays.rise;
           tells = h.moved.stays.stays.tells;
           told_before = h.moved.stays.stays.told_before;
@@ -196,10 +201,10 @@ module _ {S R : Type 0} (phase : phases.Ghosts S) (rack : Ghosts R) where
     abbrev next_state : State → List (List ℕ) → State
     next_state rest V = state_of phase rack b (on_label a b h.labels.opens rest) V
 
-    next_in : {P : Type 0} → (rest : State) (V : List (List ℕ)) → StandsLabeled rack a.store a.label rest.label → (Known P rack a → StandsFor phase rack a V) → StandsIn phase rack P b (next_state rest V)
+    next_in : {P : Type 0} → (rest : State) (V : List (List ℕ)) → StandsUnder rack a rest.label → (Known P rack a → StandsFor phase rack a V) → StandsIn phase rack P b (next_state rest V)
     next_in rest V label holds = record {
       is = refl;
-      label = h.labels.stands rest.label label;
+      label = under_by rack a b line h.labels h.well.labeled rest.label label;
       holds = λ told.
           let held = holds (told_before told) in
           record {
@@ -216,7 +221,7 @@ module _ {S R : Type 0} (phase : phases.Ghosts S) (rack : Ghosts R) where
 
     -- so many of the files may have got copies
     spreads : {P : Type 0} → (count gained : ℕ) → HasSpread wants a.homes hot count gained a.copies b.copies a.store b.store → (rest : State) (V : List (List ℕ))
-        → StandsLabeled rack a.store a.label rest.label → rest.recent ≡ hot → (Known P rack a → StandsFor phase rack a V)
+        → StandsUnder rack a rest.label → rest.recent ≡ hot → (Known P rack a → StandsFor phase rack a V)
         → Spreads (Known P rack b) (state_of phase rack a rest V) count gained (next_state rest V)
     spreads count gained has rest V label recent holds = record {
       wants = wants;
@@ -255,7 +260,7 @@ module _ {S R : Type 0} (phase : phases.Ghosts S) (rack : Ghosts R) where
     }
 
   hot_steps : (a b : Volume S R) (hot : List ℕ) (event : Event) (reply : Reply)
-      → ((origin : Origin) (rest : State) (V : List (List ℕ)) → StandsLabeled rack a.store a.label rest.label → rest.recent ≡ hot → (Known (WasHeld origin) rack a → StandsFor phase rack a V)
+      → ((origin : Origin) (rest : State) (V : List (List ℕ)) → StandsUnder rack a rest.label → rest.recent ≡ hot → (Known (WasHeld origin) rack a → StandsFor phase rack a V)
       → StepsAt phase rack (WasHeld origin) (λ recent. recent) a rest V event reply b)
       → StepsHot phase phase rack hot a event reply b
   hot_steps a b hot event reply go origin state st recent =

@@ -4,7 +4,8 @@ use Rattle.std.specs.Prelude.{IfSome, None, Option, Some, drop, if◌then◌else
 use Rattle.std.proofs.lemmas.Bool.{and_parts, false≢true, le-ltb, lt-ltb}
 use Rattle.dg_io.specs.Told.{IsSame, Told, Torn}
 use Rattle.dg_io.specs.declared.outside.Rack.{Ghosts}
-use Rattle.dg_label.specs.Labels.{AreFresh, AreNumbers, AreNumbersOf, AreSized, HasLength, HaveSameNumbers, IsKeptOf, IsLabeled, IsOfArray, StandsLabeled, is_sealed, unsealed}
+use Rattle.dg_label.specs.Labels.{AreFresh, AreNumbers, AreNumbersOf, AreSized, HasLength, HaveSameNumbers, IsKeptOf, IsLabeled, IsOfBoundariesInUse, StandsLabeled, is_sealed, unsealed}
+use Rattle.dg_label.specs.LineLaws.{line_on, seal_on}
 use Rattle.dg_label.specs.Seals.{HasGood, OpensSeal}
 use Rattle.dg_label.specs.declared.labels.KeptLabel.{KeptLabel}
 use Rattle.dg_model.proofs.MemberLaws.{none_lost}
@@ -157,11 +158,12 @@ unsealed_same None is = refl
 unsealed_same (Some k) is = λ i. Some (record k { sealed = sym is i })
 
 -- the array's numbers stay
-of_opened : (shape : Shape) (old new : ℕ → MemberState) (last : LastLabel) → IsOfArray shape last → IsOfArray shape (opened old new last)
-of_opened shape old new last is = record { shape_is = is.shape_is; numbers_are = is.numbers_are }
+of_opened : (line shape : Shape) (old new : ℕ → MemberState) (last : LastLabel) → IsOfBoundariesInUse line shape last → IsOfBoundariesInUse line shape (opened old new last)
+of_opened line shape old new last of (inl sealed) = absurd (false≢true sealed)
+of_opened line shape old new last of (inr same) = let is = of (inr same) in record { shape_is = is.shape_is; numbers_are = is.numbers_are }
 
-of_shape : (a b : Shape) (last : Option LastLabel) → b ≡ a → IfSome last (IsOfArray a) → IfSome last (IsOfArray b)
-of_shape a b last same is = subst (λ (s : Shape). IfSome last (IsOfArray s)) (sym same) is
+of_shape : (line a b : Shape) (last : Option LastLabel) → b ≡ a → IfSome last (IsOfBoundariesInUse line a) → IfSome last (IsOfBoundariesInUse line b)
+of_shape line a b last same is = subst (λ (s : Shape). IfSome last (IsOfBoundariesInUse line s)) (sym same) is
 
 -- no member that is refilled keeps a label that was opened
 filling_lacks : (old new : ℕ → MemberState) (last : LastLabel) (q : ℕ) → is_filling (new q) ≡ true → has_label (Some (opened old new last)) q ≡ false
@@ -189,15 +191,15 @@ module _ {R : Type 0} (rack : Ghosts R) where
       ap (λ (s : Bool). if s && not one then last else opened old new last) is ∙ sym (ap (λ (s : Bool). if s && not two then last else opened old new last) is)
 
   -- the label that is left is one that a step may leave
-  pub keeps_label : (a b : Store R) (before after : Option KeptLabel) (h : Relabels rack a b before after) (last : Option LastLabel) → IsKeptOf last before
+  pub keeps_label : (line : Shape) (a b : Store R) (before after : Option KeptLabel) (h : Relabels rack line a b before after) (last : Option LastLabel) → IsKeptOf last before
       → KeepsLabel (writes_of a) (writes_of b) (members_of a) (members_of b) last (label_after h.opens (members_of a) (members_of b) last)
-  keeps_label a b before after h None kept = record {
+  keeps_label line a b before after h None kept = record {
     opens = nat_lt (writes_of a) (writes_of b);
     rose = λ less low. lt-ltb (writes_of a) (writes_of b) less;
     stood = λ same low. le-ltb (writes_of a) (writes_of b) (omega (arith, same));
     is = refl;
   }
-  keeps_label a b before after h (Some last) kept = by_seal last.sealed refl
+  keeps_label line a b before after h (Some last) kept = by_seal last.sealed refl
     where
       by_seal : (s : Bool) → last.sealed ≡ s
           → KeepsLabel (writes_of a) (writes_of b) (members_of a) (members_of b) (Some last) (label_after h.opens (members_of a) (members_of b) (Some last))
@@ -218,12 +220,12 @@ module _ {R : Type 0} (rack : Ghosts R) where
 
   -- ---- no call
 
-  still_label : (a : Store R) (kept : Option KeptLabel) (last : LastLabel) (s : Bool) → last.sealed ≡ s → StandsLabeled rack a kept (Some last)
-      → StandsLabeled rack a kept (Some (next_label false (members_of a) (members_of a) last))
-  still_label a kept last true is stands =
-      subst (λ (s : Bool). StandsLabeled rack a kept (Some (if s && not false then last else opened (members_of a) (members_of a) last))) (sym is) stands
-  still_label a kept last false is stands =
-      let open_now : StandsLabeled rack a kept (Some (opened (members_of a) (members_of a) last)) = record {
+  still_label : (line : Shape) (a : Store R) (kept : Option KeptLabel) (last : LastLabel) (s : Bool) → last.sealed ≡ s → StandsLabeled rack line a kept (Some last)
+      → StandsLabeled rack line a kept (Some (next_label false (members_of a) (members_of a) last))
+  still_label line a kept last true is stands =
+      subst (λ (s : Bool). StandsLabeled rack line a kept (Some (if s && not false then last else opened (members_of a) (members_of a) last))) (sym is) stands
+  still_label line a kept last false is stands =
+      let open_now : StandsLabeled rack line a kept (Some (opened (members_of a) (members_of a) last)) = record {
         kept = kept_opened (members_of a) (members_of a) last kept (sealed_of last kept false is stands.kept) stands.kept;
         holds = record {
           label = λ q keeps.
@@ -233,65 +235,62 @@ module _ {R : Type 0} (rack : Ghosts R) where
               (stands.holds.label q had);
           body = λ q keeps sealed. absurd (false≢true sealed);
         };
-        sizes = λ q keeps.
+        sizes = λ named q keeps.
             let parts = and_parts (last.sealed || last.keepers q) (is_good (members_of a q) && is_good (members_of a q)) keeps in
-            stands.sizes q (subst (λ (s : Bool). (s || last.keepers q) ≡ true) is parts.0);
-        of_array = of_opened (shape_of a) (members_of a) (members_of a) last stands.of_array;
+            stands.sizes named q (subst (λ (s : Bool). (s || last.keepers q) ≡ true) is parts.0);
+        of_array = of_opened line (shape_of a) (members_of a) (members_of a) last stands.of_array;
         filling = filling_lacks (members_of a) (members_of a) last;
         fresh = λ q below here lacks. elim (lacking (last.sealed || last.keepers q) (is_good (members_of a q)) (is_good (members_of a q)) lacks) [
           | inl none ↦ stands.fresh q below here (sym (ap (λ (s : Bool). s || last.keepers q) is) ∙ none)
           | inr bad ↦ stands.fresh q below here (stands.filling q (here_filling (members_of a q) here (elim bad [ inl one ↦ one | inr two ↦ two ])))
         ];
       } in
-      subst (λ (s : Bool). StandsLabeled rack a kept (Some (if s && not false then last else opened (members_of a) (members_of a) last))) (sym is) open_now
+      subst (λ (s : Bool). StandsLabeled rack line a kept (Some (if s && not false then last else opened (members_of a) (members_of a) last))) (sym is) open_now
 
-  pub relabels_none : (a : Store R) (kept : Option KeptLabel) → IsLabeled rack a kept → Relabels rack a a kept kept
-  relabels_none a kept labeled = record {
-    labeled = labeled;
+  pub relabels_none : (line : Shape) (a : Store R) (kept : Option KeptLabel) → Relabels rack line a a kept kept
+  relabels_none line a kept = record {
+    labeled = λ labeled. labeled;
     opens = false;
-    stands = λ last stands. at_last last stands;
+    stands = λ last labeled stands. at_last last stands;
     wrote = λ sealed opens. absurd (false≢true opens);
     stood = λ sealed opens. refl;
   }
     where
-      at_last : (last : Option LastLabel) → StandsLabeled rack a kept last → StandsLabeled rack a kept (label_after false (members_of a) (members_of a) last)
+      at_last : (last : Option LastLabel) → StandsLabeled rack line a kept last → StandsLabeled rack line a kept (label_after false (members_of a) (members_of a) last)
       at_last None stands = stands
-      at_last (Some last) stands = still_label a kept last last.sealed refl stands
+      at_last (Some last) stands = still_label line a kept last last.sealed refl stands
 
   -- ---- an opening
 
-  pub relabels_opened : (a m : Store R) (before after : Option KeptLabel) → HasGood a → OpensSeal rack a m before after → Relabels rack a m before after
-  relabels_opened a m before after good h = record {
-    labeled = h.labeled;
+  pub relabels_opened : (line : Shape) (a m : Store R) (before after : Option KeptLabel) → HasGood a → OpensSeal rack a m before after → Relabels rack line a m before after
+  relabels_opened line a m before after good h = record {
+    labeled = h.labeled line;
     opens = true;
-    stands = λ last stands. at_last last stands;
+    stands = λ last labeled stands. by_seal labeled (is_sealed before) refl last stands;
     wrote = λ sealed opens. h.wrote sealed good;
     stood = λ sealed opens. absurd (false≢true (sym opens));
   }
     where
-      at_open : (last : LastLabel) → is_sealed before ≡ false → StandsLabeled rack a before (Some last)
-          → StandsLabeled rack a before (Some (next_label true (members_of a) (members_of a) last))
+      at_open : (last : LastLabel) → is_sealed before ≡ false → StandsLabeled rack line a before (Some last)
+          → StandsLabeled rack line a before (Some (next_label true (members_of a) (members_of a) last))
       at_open last is stands =
-          subst (λ (x : LastLabel). StandsLabeled rack a before (Some x))
+          subst (λ (x : LastLabel). StandsLabeled rack line a before (Some x))
           (after_unsealed false true (members_of a) (members_of a) last (unsealed_last before is stands.kept))
-          (still_label a before last last.sealed refl stands)
+          (still_label line a before last last.sealed refl stands)
         where
           unsealed_last : (kept : Option KeptLabel) → is_sealed kept ≡ false → IsKeptOf (Some last) kept → last.sealed ≡ false
           unsealed_last None is kept = absurd kept
           unsealed_last (Some k) is kept = kept.sealed ∙ is
 
-      by_seal : (s : Bool) → is_sealed before ≡ s → (last : Option LastLabel) → StandsLabeled rack a before last
-          → StandsLabeled rack m after (label_after true (members_of a) (members_of m) last)
-      by_seal true is last stands = h.stands last is stands
-      by_seal false is None stands =
-          subst (λ (k : Option KeptLabel). StandsLabeled rack m k None) (sym (h.after_is ∙ unsealed_same before is))
-          (subst (λ (x : Store R). StandsLabeled rack x before None) (sym (h.quiet is)) stands)
-      by_seal false is (Some last) stands =
-          subst (λ (k : Option KeptLabel). StandsLabeled rack m k (Some (next_label true (members_of a) (members_of m) last))) (sym (h.after_is ∙ unsealed_same before is))
-          (subst (λ (x : Store R). StandsLabeled rack x before (Some (next_label true (members_of a) (members_of x) last))) (sym (h.quiet is)) (at_open last is stands))
-
-      at_last : (last : Option LastLabel) → StandsLabeled rack a before last → StandsLabeled rack m after (label_after true (members_of a) (members_of m) last)
-      at_last last stands = by_seal (is_sealed before) refl last stands
+      by_seal : IsLabeled rack line a before → (s : Bool) → is_sealed before ≡ s → (last : Option LastLabel) → StandsLabeled rack line a before last
+          → StandsLabeled rack line m after (label_after true (members_of a) (members_of m) last)
+      by_seal labeled true is last stands = h.stands line last labeled is stands
+      by_seal labeled false is None stands =
+          subst (λ (k : Option KeptLabel). StandsLabeled rack line m k None) (sym (h.after_is ∙ unsealed_same before is))
+          (subst (λ (x : Store R). StandsLabeled rack line x before None) (sym (h.quiet is)) stands)
+      by_seal labeled false is (Some last) stands =
+          subst (λ (k : Option KeptLabel). StandsLabeled rack line m k (Some (next_label true (members_of a) (members_of m) last))) (sym (h.after_is ∙ unsealed_same before is))
+          (subst (λ (x : Store R). StandsLabeled rack line x before (Some (next_label true (members_of a) (members_of x) last))) (sym (h.quiet is)) (at_open last is stands))
 
   -- ---- a call behind that
 
@@ -321,12 +320,13 @@ module _ {R : Type 0} (rack : Ghosts R) where
         (fresh q (below_on m c h.shape q below) stood (lacks stood))
   ]
 
-  still_or_opened : (a m c : Store R) (opens : Bool) (kept : Option KeptLabel) (last : LastLabel) (test : Bool) → (last.sealed && not opens) ≡ test → LeavesLabel a m c opens
-      → StandsLabeled rack m kept (Some (if test then last else opened (members_of a) (members_of m) last))
-      → StandsLabeled rack c kept (Some (if test then last else opened (members_of a) (members_of c) last))
-  still_or_opened a m c opens kept last true is h stands =
-      let closed : opens ≡ false = closed_of opens (and_parts last.sealed (not opens) is).1 in
-      let shape : last.shape ≡ shape_of m = stands.of_array.shape_is in
+  still_or_opened : (line : Shape) (a m c : Store R) (opens : Bool) (kept : Option KeptLabel) (last : LastLabel) (test : Bool) → (last.sealed && not opens) ≡ test → LeavesLabel a m c opens
+      → StandsLabeled rack line m kept (Some (if test then last else opened (members_of a) (members_of m) last))
+      → StandsLabeled rack line c kept (Some (if test then last else opened (members_of a) (members_of c) last))
+  still_or_opened line a m c opens kept last true is h stands =
+      let tests = and_parts last.sealed (not opens) is in
+      let closed : opens ≡ false = closed_of opens tests.1 in
+      let shape : last.shape ≡ shape_of m = (stands.of_array (inl tests.0)).shape_is in
       let room : ((shape_of m).k + 1) * (shape_of m).l ≡ (last.shape.k + 1) * last.shape.l = ap (λ (s : Shape). (s.k + 1) * s.l) (sym shape) in
       record {
         kept = stands.kept;
@@ -336,9 +336,9 @@ module _ {R : Type 0} (rack : Ghosts R) where
           body = λ q has sealed. body_stays last.shape last.body (rack.bytes (rack_of m) q) (rack.bytes (rack_of c) q)
               (subst (λ (n : ℕ). Told (Torn 512 n) (rack.bytes (rack_of m) q) (rack.bytes (rack_of c) q)) room (h.beside q (inr closed))) (stands.holds.body q has sealed);
         };
-        sizes = λ q keeps. length_stays (((shape_of m).k + 1) * (shape_of m).l) (λ size. saves.HasLength (label_on last q) size) (rack.bytes (rack_of m) q) (rack.bytes (rack_of c) q)
-            (h.beside q (inr closed)) (stands.sizes q keeps);
-        of_array = of_shape (shape_of m) (shape_of c) (Some last) h.shape stands.of_array;
+        sizes = λ named q keeps. length_stays (((shape_of m).k + 1) * (shape_of m).l) (λ size. saves.HasLength (label_on last q) size) (rack.bytes (rack_of m) q) (rack.bytes (rack_of c) q)
+            (h.beside q (inr closed)) (stands.sizes named q keeps);
+        of_array = of_shape line (shape_of m) (shape_of c) (Some last) h.shape stands.of_array;
         filling = λ q fills. elim (h.fills q fills) [ inl was ↦ stands.filling q was | inr anew ↦ absurd (false≢true (sym closed ∙ anew.0)) ];
         fresh = λ q below here lacks. fresh_on a m c opens (Some last) h stands.fresh q below here (λ stood. lacks);
       }
@@ -346,7 +346,7 @@ module _ {R : Type 0} (rack : Ghosts R) where
       closed_of : (b : Bool) → not b ≡ true → b ≡ false
       closed_of true e = sym e
       closed_of false e = refl
-  still_or_opened a m c opens kept last false is h stands = record {
+  still_or_opened line a m c opens kept last false is h stands = record {
     kept = again kept stands.kept;
     holds = record {
       label = λ q keeps.
@@ -357,14 +357,14 @@ module _ {R : Type 0} (rack : Ghosts R) where
           (h.beside q (inl both.1)) (stands.holds.label q (joined (last.sealed || last.keepers q) (is_good (members_of a q)) (is_good (members_of m q)) parts.0 both.0 mid));
       body = λ q keeps sealed. absurd (false≢true sealed);
     };
-    sizes = λ q keeps.
+    sizes = λ named q keeps.
         let parts = and_parts (last.sealed || last.keepers q) (is_good (members_of a q) && is_good (members_of c q)) keeps in
         let both = and_parts (is_good (members_of a q)) (is_good (members_of c q)) parts.1 in
         let mid = h.back q both.0 both.1 in
         length_stays (((shape_of m).k + 1) * (shape_of m).l) (λ size. saves.HasLength (label_on last q) size) (rack.bytes (rack_of m) q) (rack.bytes (rack_of c) q)
-        (h.beside q (inl both.1)) (stands.sizes q (joined (last.sealed || last.keepers q) (is_good (members_of a q)) (is_good (members_of m q)) parts.0 both.0 mid));
-    of_array = of_shape (shape_of m) (shape_of c) (Some (opened (members_of a) (members_of c) last)) h.shape
-        (record { shape_is = stands.of_array.shape_is; numbers_are = stands.of_array.numbers_are });
+        (h.beside q (inl both.1)) (stands.sizes named q (joined (last.sealed || last.keepers q) (is_good (members_of a q)) (is_good (members_of m q)) parts.0 both.0 mid));
+    of_array = of_shape line (shape_of m) (shape_of c) (Some (opened (members_of a) (members_of c) last)) h.shape
+        (λ why. let is = stands.of_array why in record { shape_is = is.shape_is; numbers_are = is.numbers_are });
     filling = filling_lacks (members_of a) (members_of c) last;
     fresh = λ q below here lacks.
         elim (lacking (last.sealed || last.keepers q) (is_good (members_of a q)) (is_good (members_of c q)) lacks) [
@@ -389,8 +389,9 @@ module _ {R : Type 0} (rack : Ghosts R) where
       again (Some k) is = record { format = is.format; sequence = is.sequence; sealed = is.sealed; body = is.body }
 
   -- the label that stands is the one with other bits
-  noted_stands : (c : Store R) (mid after : Option KeptLabel) (last : Option LastLabel) → HaveSameNumbers mid after → StandsLabeled rack c mid last → StandsLabeled rack c after last
-  noted_stands c mid after last same stands = record {
+  noted_stands : (line : Shape) (c : Store R) (mid after : Option KeptLabel) (last : Option LastLabel) → HaveSameNumbers mid after → StandsLabeled rack line c mid last
+      → StandsLabeled rack line c after last
+  noted_stands line c mid after last same stands = record {
     kept = noted_kept last mid after same stands.kept;
     holds = stands.holds;
     sizes = stands.sizes;
@@ -399,12 +400,13 @@ module _ {R : Type 0} (rack : Ghosts R) where
     fresh = stands.fresh;
   }
 
-  pub relabels_noted : (a m c : Store R) (before mid after : Option KeptLabel) (first : Relabels rack a m before mid) → HaveSameNumbers mid after → IsLabeled rack c after
-      → LeavesLabel a m c first.opens → (first.opens ≡ false → writes_of c ≡ writes_of m) → Relabels rack a c before after
-  relabels_noted a m c before mid after first same labeled h stood = record {
-    labeled = labeled;
+  pub relabels_noted : (line : Shape) (a m c : Store R) (before mid after : Option KeptLabel) (first : Relabels rack line a m before mid) → HaveSameNumbers mid after
+      → (IsLabeled rack line m mid → IsLabeled rack line c after) → LeavesLabel a m c first.opens → (first.opens ≡ false → writes_of c ≡ writes_of m) → Relabels rack line a c before after
+  relabels_noted line a m c before mid after first same labeled h stood = record {
+    labeled = λ was. labeled (first.labeled was);
     opens = first.opens;
-    stands = λ last stands. noted_stands c mid after (label_after first.opens (members_of a) (members_of c) last) same (at_last last (first.stands last stands));
+    stands = λ last was stands.
+        noted_stands line c mid after (label_after first.opens (members_of a) (members_of c) last) same (at_last last (first.stands last was stands));
     wrote = λ sealed opens. rose_on (writes_of a) (writes_of m) (writes_of c) (first.wrote sealed opens) h.rise;
     stood = λ sealed opens. stood opens ∙ first.stood sealed opens;
   }
@@ -412,8 +414,8 @@ module _ {R : Type 0} (rack : Ghosts R) where
       rose_on : (x y z : ℕ) → Rose x y → y ≤ z → Rose x z
       rose_on x y z rose up = omega (arith, rose, up)
 
-      at_last : (last : Option LastLabel) → StandsLabeled rack m mid (label_after first.opens (members_of a) (members_of m) last)
-          → StandsLabeled rack c mid (label_after first.opens (members_of a) (members_of c) last)
+      at_last : (last : Option LastLabel) → StandsLabeled rack line m mid (label_after first.opens (members_of a) (members_of m) last)
+          → StandsLabeled rack line c mid (label_after first.opens (members_of a) (members_of c) last)
       at_last None stands = record {
         kept = stands.kept;
         holds = tt;
@@ -422,12 +424,13 @@ module _ {R : Type 0} (rack : Ghosts R) where
         filling = λ q fills. refl;
         fresh = λ q below here lacks. fresh_on a m c first.opens None h stands.fresh q below here (λ stood. refl);
       }
-      at_last (Some last) stands = still_or_opened a m c first.opens mid last (last.sealed && not first.opens) refl h stands
+      at_last (Some last) stands = still_or_opened line a m c first.opens mid last (last.sealed && not first.opens) refl h stands
 
   -- the same where no bit has changed
-  relabels_on : (a m c : Store R) (before after : Option KeptLabel) (first : Relabels rack a m before after) → IsLabeled rack c after → LeavesLabel a m c first.opens
-      → (first.opens ≡ false → writes_of c ≡ writes_of m) → Relabels rack a c before after
-  relabels_on a m c before after first labeled h stood = relabels_noted a m c before after after first (same_numbers after) labeled h stood
+  relabels_on : (line : Shape) (a m c : Store R) (before after : Option KeptLabel) (first : Relabels rack line a m before after)
+      → (IsLabeled rack line m after → IsLabeled rack line c after) → LeavesLabel a m c first.opens
+      → (first.opens ≡ false → writes_of c ≡ writes_of m) → Relabels rack line a c before after
+  relabels_on line a m c before after first labeled h stood = relabels_noted line a m c before after after first (same_numbers after) labeled h stood
 
   -- ---- calls on slots
 
@@ -440,23 +443,23 @@ module _ {R : Type 0} (rack : Ghosts R) where
     pub fills : (q : ℕ) → is_filling (members_of c q) ≡ true → is_filling (members_of m q) ≡ true
     pub beside : (q : ℕ) → Told (Torn 512 (((shape_of m).k + 1) * (shape_of m).l)) (rack.bytes (rack_of m) q) (rack.bytes (rack_of c) q)
 
-  labeled_on : (a m c : Store R) (kept : Option KeptLabel) → IsLabeled rack m kept → CallsOnSlots a m c → IsLabeled rack c kept
-  labeled_on a m c kept labeled h = record {
-    numbers = subst (λ (s : Shape). IfSome kept (AreNumbers s)) (sym h.shape) labeled.numbers;
+  labeled_on : (line : Shape) (a m c : Store R) (kept : Option KeptLabel) → IsLabeled rack line m kept → CallsOnSlots a m c → IsLabeled rack line c kept
+  labeled_on line a m c kept labeled h = record {
+    fits = line_on line (shape_of m) (shape_of c) h.shape labeled.fits;
+    numbers = labeled.numbers;
+    sealed = seal_on (shape_of m) (shape_of c) kept h.shape labeled.sealed;
     lengths = λ q here.
-        subst (λ (s : Shape). IfSome (rack.bytes (rack_of c) q) (λ all. HasLength s kept q (length all))) (sym h.shape)
-        (length_stays (((shape_of m).k + 1) * (shape_of m).l) (λ size. HasLength (shape_of m) kept q size) (rack.bytes (rack_of m) q) (rack.bytes (rack_of c) q) (h.beside q)
-        (labeled.lengths q (λ out. here (h.outs q out))));
+        length_stays (((shape_of m).k + 1) * (shape_of m).l) (λ size. HasLength line kept q size) (rack.bytes (rack_of m) q) (rack.bytes (rack_of c) q) (h.beside q)
+        (labeled.lengths q (λ out. here (h.outs q out)));
     filling = λ q fills.
-        subst (λ (s : Shape). IfSome (rack.bytes (rack_of c) q) (λ all. length all ≡ member_length 2 s)) (sym h.shape)
-        (length_stays (((shape_of m).k + 1) * (shape_of m).l) (λ size. size ≡ member_length 2 (shape_of m)) (rack.bytes (rack_of m) q) (rack.bytes (rack_of c) q) (h.beside q)
-        (labeled.filling q (h.fills q fills)));
+        length_stays (((shape_of m).k + 1) * (shape_of m).l) (λ size. size ≡ member_length 2 line) (rack.bytes (rack_of m) q) (rack.bytes (rack_of c) q) (h.beside q)
+        (labeled.filling q (h.fills q fills));
   }
 
-  pub relabels_then : (a m c : Store R) (before after : Option KeptLabel) (first : Relabels rack a m before after) → CallsOnSlots a m c
-      → (first.opens ≡ false → writes_of c ≡ writes_of m) → Relabels rack a c before after
-  relabels_then a m c before after first h stood =
-      relabels_on a m c before after first (labeled_on a m c after first.labeled h) (record {
+  pub relabels_then : (line : Shape) (a m c : Store R) (before after : Option KeptLabel) (first : Relabels rack line a m before after) → CallsOnSlots a m c
+      → (first.opens ≡ false → writes_of c ≡ writes_of m) → Relabels rack line a c before after
+  relabels_then line a m c before after first h stood =
+      relabels_on line a m c before after first (λ labeled. labeled_on line a m c after labeled h) (record {
         shape = h.shape;
         rise = h.rise;
         back = h.back;
@@ -517,23 +520,24 @@ module _ {R : Type 0} (rack : Ghosts R) where
   good_whole a some whole = good_of (members_of a) 0 (none_lost (shape_of a) (members_of a) 0 whole some)
 
   -- where the seal was opened or not
-  pub relabels_where : (writes : Bool) (a m : Store R) (before after : Option KeptLabel) → IsLabeled rack a before → (writes ≡ true → HasGood a) → OpensWhere rack writes a m before after
-      → (h : Relabels rack a m before after) × (h.opens ≡ writes)
+  pub relabels_where : (line : Shape) (writes : Bool) (a m : Store R) (before after : Option KeptLabel) → (writes ≡ true → HasGood a) → OpensWhere rack writes a m before after
+      → (h : Relabels rack line a m before after) × (h.opens ≡ writes)
   unfolding relabels_none relabels_opened
-  relabels_where true a m before after labeled good h = (relabels_opened a m before after (good refl) (h.opens refl), refl)
-  relabels_where false a m before after labeled good h =
+  relabels_where line true a m before after good h = (relabels_opened line a m before after (good refl) (h.opens refl), refl)
+  relabels_where line false a m before after good h =
       let quiet = h.quiet refl in
-      subst (λ (k : Option KeptLabel). (r : Relabels rack a m before k) × (r.opens ≡ false)) (sym quiet.1)
-      (subst (λ (x : Store R). (r : Relabels rack a x before before) × (r.opens ≡ false)) (sym quiet.0) (relabels_none a before labeled, refl))
+      subst (λ (k : Option KeptLabel). (r : Relabels rack line a m before k) × (r.opens ≡ false)) (sym quiet.1)
+      (subst (λ (x : Store R). (r : Relabels rack line a x before before) × (r.opens ≡ false)) (sym quiet.0) (relabels_none line a before, refl))
 
   -- ---- reads
 
-  pub stands_through : (a r : Store R) (kept : Option KeptLabel) (last : Option LastLabel) → Keeps rack a r → StandsLabeled rack a kept last → StandsLabeled rack r kept last
-  stands_through a r kept last h stands = record {
+  pub stands_through : (line : Shape) (a r : Store R) (kept : Option KeptLabel) (last : Option LastLabel) → Keeps rack a r → StandsLabeled rack line a kept last
+      → StandsLabeled rack line r kept last
+  stands_through line a r kept last h stands = record {
     kept = stands.kept;
     holds = at_last last stands.holds stands.of_array;
     sizes = sizes_at last stands.sizes;
-    of_array = of_shape (shape_of a) (shape_of r) last h.shape stands.of_array;
+    of_array = of_shape line (shape_of a) (shape_of r) last h.shape stands.of_array;
     filling = λ q fills. stands.filling q (fills_falls (rack.counts (rack_of a)).faults (rack.counts (rack_of r)).faults (members_of a) (members_of r) h.falls q fills);
     fresh = λ q below here lacks.
         none_stays (((shape_of a).k + 1) * (shape_of a).l) (rack.bytes (rack_of a) q) (rack.bytes (rack_of r) q) (h.beside q)
@@ -541,31 +545,34 @@ module _ {R : Type 0} (rack : Ghosts R) where
         (λ out. here (out_falls (rack.counts (rack_of a)).faults (rack.counts (rack_of r)).faults (members_of a) (members_of r) h.falls q out)) lacks);
   }
     where
-      at_last : (last : Option LastLabel) → IfSome last (λ label. HoldsLabel label (rack.bytes (rack_of a))) → IfSome last (IsOfArray (shape_of a))
+      at_last : (last : Option LastLabel) → IfSome last (λ label. HoldsLabel label (rack.bytes (rack_of a))) → IfSome last (IsOfBoundariesInUse line (shape_of a))
           → IfSome last (λ label. HoldsLabel label (rack.bytes (rack_of r)))
       at_last None holds of_array = tt
       at_last (Some last) holds of_array =
-          let room : ((shape_of a).k + 1) * (shape_of a).l ≡ (last.shape.k + 1) * last.shape.l = ap (λ (s : Shape). (s.k + 1) * s.l) (sym of_array.shape_is) in
           record {
             label = λ q keeps. front_stays (((shape_of a).k + 1) * (shape_of a).l) (label_on last q) (rack.bytes (rack_of a) q) (rack.bytes (rack_of r) q)
                 (h.beside q) (holds.label q keeps);
-            body = λ q has sealed. body_stays last.shape last.body (rack.bytes (rack_of a) q) (rack.bytes (rack_of r) q)
+            body = λ q has sealed.
+                let shape : last.shape ≡ shape_of a = (of_array (inl sealed)).shape_is in
+                let room : ((shape_of a).k + 1) * (shape_of a).l ≡ (last.shape.k + 1) * last.shape.l = ap (λ (s : Shape). (s.k + 1) * s.l) (sym shape) in
+                body_stays last.shape last.body (rack.bytes (rack_of a) q) (rack.bytes (rack_of r) q)
                 (subst (λ (n : ℕ). Told (Torn 512 n) (rack.bytes (rack_of a) q) (rack.bytes (rack_of r) q)) room (h.beside q)) (holds.body q has sealed);
           }
 
-      sizes_at : (last : Option LastLabel) → IfSome last (AreSized rack a) → IfSome last (AreSized rack r)
+      sizes_at : (last : Option LastLabel) → IfSome last (λ label. label.shape ≡ line → AreSized rack a label) → IfSome last (λ label. label.shape ≡ line → AreSized rack r label)
       sizes_at None sizes = tt
-      sizes_at (Some last) sizes = λ q keeps.
-          length_stays (((shape_of a).k + 1) * (shape_of a).l) (λ size. saves.HasLength (label_on last q) size) (rack.bytes (rack_of a) q) (rack.bytes (rack_of r) q) (h.beside q) (sizes q keeps)
+      sizes_at (Some last) sizes = λ named q keeps.
+          length_stays (((shape_of a).k + 1) * (shape_of a).l) (λ size. saves.HasLength (label_on last q) size) (rack.bytes (rack_of a) q) (rack.bytes (rack_of r) q) (h.beside q)
+          (sizes named q keeps)
 
   -- fewer members keep it where more were good before
-  narrowed : (a r c : Store R) (kept : Option KeptLabel) (last : LastLabel) (test : Bool)
+  narrowed : (line : Shape) (a r c : Store R) (kept : Option KeptLabel) (last : LastLabel) (test : Bool)
       → ((q : ℕ) → is_good (members_of a q) ≡ true → is_good (members_of c q) ≡ true → is_good (members_of r q) ≡ true)
       → ((q : ℕ) → is_good (members_of r q) ≡ true → is_good (members_of a q) ≡ true)
-      → StandsLabeled rack c kept (Some (if test then last else opened (members_of r) (members_of c) last))
-      → StandsLabeled rack c kept (Some (if test then last else opened (members_of a) (members_of c) last))
-  narrowed a r c kept last true back from stands = stands
-  narrowed a r c kept last false back from stands = record {
+      → StandsLabeled rack line c kept (Some (if test then last else opened (members_of r) (members_of c) last))
+      → StandsLabeled rack line c kept (Some (if test then last else opened (members_of a) (members_of c) last))
+  narrowed line a r c kept last true back from stands = stands
+  narrowed line a r c kept last false back from stands = record {
     kept = again kept stands.kept;
     holds = record {
       label = λ q keeps.
@@ -575,12 +582,12 @@ module _ {R : Type 0} (rack : Ghosts R) where
           stands.holds.label q (joined (last.sealed || last.keepers q) (is_good (members_of r q)) (is_good (members_of c q)) parts.0 mid both.1);
       body = λ q keeps sealed. absurd (false≢true sealed);
     };
-    sizes = λ q keeps.
+    sizes = λ named q keeps.
         let parts = and_parts (last.sealed || last.keepers q) (is_good (members_of a q) && is_good (members_of c q)) keeps in
         let both = and_parts (is_good (members_of a q)) (is_good (members_of c q)) parts.1 in
         let mid = back q both.0 both.1 in
-        stands.sizes q (joined (last.sealed || last.keepers q) (is_good (members_of r q)) (is_good (members_of c q)) parts.0 mid both.1);
-    of_array = record { shape_is = stands.of_array.shape_is; numbers_are = stands.of_array.numbers_are };
+        stands.sizes named q (joined (last.sealed || last.keepers q) (is_good (members_of r q)) (is_good (members_of c q)) parts.0 mid both.1);
+    of_array = λ why. let is = stands.of_array why in record { shape_is = is.shape_is; numbers_are = is.numbers_are };
     filling = filling_lacks (members_of a) (members_of c) last;
     fresh = λ q below here lacks. stands.fresh q below here (elim (lacking (last.sealed || last.keepers q) (is_good (members_of a q)) (is_good (members_of c q)) lacks) [
       | inl none ↦ and_first (last.sealed || last.keepers q) (is_good (members_of r q)) (is_good (members_of c q)) none
@@ -601,12 +608,12 @@ module _ {R : Type 0} (rack : Ghosts R) where
       again (Some k) is = record { format = is.format; sequence = is.sequence; sealed = is.sealed; body = is.body }
 
   -- reads, and then other calls
-  pub relabels_behind : (a r c : Store R) (before after : Option KeptLabel) → ReadsOn rack a r → (second : Relabels rack r c before after)
-      → ((q : ℕ) → is_good (members_of a q) ≡ true → is_good (members_of c q) ≡ true → is_good (members_of r q) ≡ true) → Relabels rack a c before after
-  relabels_behind a r c before after reads second back = record {
-    labeled = second.labeled;
+  pub relabels_behind : (line : Shape) (a r c : Store R) (before after : Option KeptLabel) → ReadsOn rack a r → (second : Relabels rack line r c before after)
+      → ((q : ℕ) → is_good (members_of a q) ≡ true → is_good (members_of c q) ≡ true → is_good (members_of r q) ≡ true) → Relabels rack line a c before after
+  relabels_behind line a r c before after reads second back = record {
+    labeled = λ labeled. second.labeled (labeled_on line a a r before labeled (slots_kept a a r reads.keeps));
     opens = second.opens;
-    stands = λ last stands. at_last last stands;
+    stands = λ last labeled stands. at_last (labeled_on line a a r before labeled (slots_kept a a r reads.keeps)) last stands;
     wrote = λ sealed opens. rose_from (writes_of a) (writes_of r) (writes_of c) reads.writes (second.wrote sealed opens);
     stood = λ sealed opens. second.stood sealed opens ∙ reads.writes;
   }
@@ -614,15 +621,16 @@ module _ {R : Type 0} (rack : Ghosts R) where
       rose_from : (x y z : ℕ) → y ≡ x → Rose y z → Rose x z
       rose_from x y z same rose = subst (λ (n : ℕ). Rose n z) same rose
 
-      at_last : (last : Option LastLabel) → StandsLabeled rack a before last → StandsLabeled rack c after (label_after second.opens (members_of a) (members_of c) last)
-      at_last None stands = second.stands None (stands_through a r before None reads.keeps stands)
-      at_last (Some last) stands =
-          narrowed a r c after last (last.sealed && not second.opens) back
+      at_last : IsLabeled rack line r before → (last : Option LastLabel) → StandsLabeled rack line a before last
+          → StandsLabeled rack line c after (label_after second.opens (members_of a) (members_of c) last)
+      at_last labeled None stands = second.stands None labeled (stands_through line a r before None reads.keeps stands)
+      at_last labeled (Some last) stands =
+          narrowed line a r c after last (last.sealed && not second.opens) back
           (good_falls (rack.counts (rack_of a)).faults (rack.counts (rack_of r)).faults (members_of a) (members_of r) reads.keeps.falls)
-          (second.stands (Some last) (stands_through a r before (Some last) reads.keeps stands))
+          (second.stands (Some last) labeled (stands_through line a r before (Some last) reads.keeps stands))
 
-  pub relabels_read : (a c : Store R) (kept : Option KeptLabel) → IsLabeled rack a kept → ReadsOn rack a c → Relabels rack a c kept kept
-  relabels_read a c kept labeled reads = relabels_then a a c kept kept (relabels_none a kept labeled) (slots_kept a a c reads.keeps) (λ opens. reads.writes)
+  pub relabels_read : (line : Shape) (a c : Store R) (kept : Option KeptLabel) → ReadsOn rack a c → Relabels rack line a c kept kept
+  relabels_read line a c kept reads = relabels_then line a a c kept kept (relabels_none line a kept) (slots_kept a a c reads.keeps) (λ opens. reads.writes)
 
   -- ---- no call on the rack
 
@@ -632,48 +640,48 @@ module _ {R : Type 0} (rack : Ghosts R) where
       (beside_none (shape_of a).l ((shape_of a).k + 1) (rack.bytes (rack_of a)))
 
   -- what the members do may change
-  pub relabels_quiet : (a m c : Store R) (before after : Option KeptLabel) → Relabels rack a m before after → shape_of c ≡ shape_of m → rack_of c ≡ rack_of m
+  pub relabels_quiet : (line : Shape) (a m c : Store R) (before after : Option KeptLabel) → Relabels rack line a m before after → shape_of c ≡ shape_of m → rack_of c ≡ rack_of m
       → ((q : ℕ) → is_good (members_of a q) ≡ true → is_good (members_of c q) ≡ true → is_good (members_of m q) ≡ true) → ((q : ℕ) → members_of m q ≡ Out → members_of c q ≡ Out)
-      → ((q : ℕ) → is_filling (members_of c q) ≡ true → is_filling (members_of m q) ≡ true) → Relabels rack a c before after
-  relabels_quiet a m c before after first shape same back outs fills =
+      → ((q : ℕ) → is_filling (members_of c q) ≡ true → is_filling (members_of m q) ≡ true) → Relabels rack line a c before after
+  relabels_quiet line a m c before after first shape same back outs fills =
       let writes : writes_of c ≡ writes_of m = ap (λ (r : R). (rack.counts r).writes) same in
-      relabels_then a m c before after first
+      relabels_then line a m c before after first
       (record { shape = shape; rise = omega (arith, writes); back = back; outs = outs; fills = fills; beside = same_bytes m c same }) (λ opens. writes)
 
   -- the label stands as it stood
-  pub stands_same : (a c : Store R) (kept : Option KeptLabel) (last : Option LastLabel) → shape_of c ≡ shape_of a → rack_of c ≡ rack_of a
+  pub stands_same : (line : Shape) (a c : Store R) (kept : Option KeptLabel) (last : Option LastLabel) → shape_of c ≡ shape_of a → rack_of c ≡ rack_of a
       → ((q : ℕ) → members_of a q ≡ Out → members_of c q ≡ Out) → ((q : ℕ) → is_filling (members_of c q) ≡ true → is_filling (members_of a q) ≡ true)
-      → StandsLabeled rack a kept last → StandsLabeled rack c kept last
-  stands_same a c kept last shape same outs fills stands = record {
+      → StandsLabeled rack line a kept last → StandsLabeled rack line c kept last
+  stands_same line a c kept last shape same outs fills stands = record {
     kept = stands.kept;
     holds = subst (λ (r : R). IfSome last (λ label. HoldsLabel label (rack.bytes r))) (sym same) stands.holds;
-    sizes = subst (λ (r : R). IfSome last (λ label. (q : ℕ) → label.keepers q ≡ true → IfSome (rack.bytes r q) (λ all. saves.HasLength (label_on label q) (length all)))) (sym same) stands.sizes;
-    of_array = of_shape (shape_of a) (shape_of c) last shape stands.of_array;
+    sizes = subst (λ (r : R). IfSome last (λ label. label.shape ≡ line → (q : ℕ) → label.keepers q ≡ true → IfSome (rack.bytes r q) (λ all. saves.HasLength (label_on label q) (length all)))) (sym same) stands.sizes;
+    of_array = of_shape line (shape_of a) (shape_of c) last shape stands.of_array;
     filling = λ q filled. stands.filling q (fills q filled);
     fresh = λ q below here lacks.
         subst (λ (r : R). HasNone (rack.bytes r q)) (sym same) (stands.fresh q (below_on a c shape q below) (λ out. here (outs q out)) lacks);
   }
 
   -- whether the seal was opened
-  pub none_opens : (a : Store R) (kept : Option KeptLabel) (labeled : IsLabeled rack a kept) → (relabels_none a kept labeled).opens ≡ false
+  pub none_opens : (line : Shape) (a : Store R) (kept : Option KeptLabel) → (relabels_none line a kept).opens ≡ false
   unfolding relabels_none
-  none_opens a kept labeled = refl
+  none_opens line a kept = refl
 
-  pub then_opens : (a m c : Store R) (before after : Option KeptLabel) (first : Relabels rack a m before after) (h : CallsOnSlots a m c) (stood : first.opens ≡ false → writes_of c ≡ writes_of m)
-      → (relabels_then a m c before after first h stood).opens ≡ first.opens
+  pub then_opens : (line : Shape) (a m c : Store R) (before after : Option KeptLabel) (first : Relabels rack line a m before after) (h : CallsOnSlots a m c) (stood : first.opens ≡ false → writes_of c ≡ writes_of m)
+      → (relabels_then line a m c before after first h stood).opens ≡ first.opens
   unfolding relabels_then relabels_on relabels_noted
-  then_opens a m c before after first h stood = refl
+  then_opens line a m c before after first h stood = refl
 
-  pub quiet_opens : (a m c : Store R) (before after : Option KeptLabel) (first : Relabels rack a m before after) (shape : shape_of c ≡ shape_of m) (same : rack_of c ≡ rack_of m)
+  pub quiet_opens : (line : Shape) (a m c : Store R) (before after : Option KeptLabel) (first : Relabels rack line a m before after) (shape : shape_of c ≡ shape_of m) (same : rack_of c ≡ rack_of m)
       (back : (q : ℕ) → is_good (members_of a q) ≡ true → is_good (members_of c q) ≡ true → is_good (members_of m q) ≡ true) (outs : (q : ℕ) → members_of m q ≡ Out → members_of c q ≡ Out)
-      (fills : (q : ℕ) → is_filling (members_of c q) ≡ true → is_filling (members_of m q) ≡ true) → (relabels_quiet a m c before after first shape same back outs fills).opens ≡ first.opens
+      (fills : (q : ℕ) → is_filling (members_of c q) ≡ true → is_filling (members_of m q) ≡ true) → (relabels_quiet line a m c before after first shape same back outs fills).opens ≡ first.opens
   unfolding relabels_quiet relabels_then relabels_on relabels_noted
-  quiet_opens a m c before after first shape same back outs fills = refl
+  quiet_opens line a m c before after first shape same back outs fills = refl
 
-  pub opened_opens : (a m : Store R) (before after : Option KeptLabel) (good : HasGood a) (h : OpensSeal rack a m before after) → (relabels_opened a m before after good h).opens ≡ true
+  pub opened_opens : (line : Shape) (a m : Store R) (before after : Option KeptLabel) (good : HasGood a) (h : OpensSeal rack a m before after) → (relabels_opened line a m before after good h).opens ≡ true
   unfolding relabels_opened
-  opened_opens a m before after good h = refl
+  opened_opens line a m before after good h = refl
 
   -- calls on slots keep the label that fits
-  pub labeled_kept : (m c : Store R) (kept : Option KeptLabel) → IsLabeled rack m kept → Keeps rack m c → IsLabeled rack c kept
-  labeled_kept m c kept labeled h = labeled_on m m c kept labeled (slots_kept m m c h)
+  pub labeled_kept : (line : Shape) (m c : Store R) (kept : Option KeptLabel) → IsLabeled rack line m kept → Keeps rack m c → IsLabeled rack line c kept
+  labeled_kept line m c kept labeled h = labeled_on line m m c kept labeled (slots_kept m m c h)

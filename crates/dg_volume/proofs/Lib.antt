@@ -11,6 +11,8 @@ mod FileLaws
 mod GoneLaws
 mod HomeLaws
 mod LabelLaws
+mod LeftLaws
+mod LeftLists
 mod ListedLaws
 mod LooseLaws
 mod MoveSteps
@@ -25,6 +27,7 @@ mod RebuildMarks
 mod RebuildSteps
 mod RefillBehind
 mod RefillLaws
+mod RegroupSteps
 mod ReplaceSteps
 mod SaveLaws
 mod SealSteps

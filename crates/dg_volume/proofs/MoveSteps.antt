@@ -1,7 +1,6 @@
 -- A volume makes a step by moves of its blocks: what is left of it, and each answer of `tend` and of `settle`.
 use Rattle.std.proofs.Common.{◌≡◌, ◌≢◌, ◌⊎◌, ◌∙◌, ◌≤◌, ℕ, Bool, false, List, length, refl, sym, ap, subst, inl, inr}
 use Rattle.std.specs.Prelude.{Option, Some, None, Err, IfSome}
-use Rattle.dg_label.specs.Labels.{StandsLabeled}
 use Rattle.dg_label.specs.declared.labels.KeptLabel.{KeptLabel}
 use Rattle.dg_infer.specs.Meanings.{KeptInference}
 use Rattle.dg_infer.specs.Meanings as inferences
@@ -35,13 +34,14 @@ use Rattle.dg_store.specs.declared.store.Store.{Store}
 use Rattle.dg_volume.proofs.ArrayLaws.{told_by, told_moved}
 use Rattle.dg_volume.proofs.LabelLaws.{good_falls, relabels_behind}
 use Rattle.dg_volume.proofs.UseLaws.{fits_same, least_here, least_on}
-use Rattle.dg_volume.proofs.VolumeLaws.{HasRead, IsBeside, Labels, label_by, on_label, read_state, reads_in, reads_stay, same_in, steps_from}
+use Rattle.dg_volume.proofs.VolumeLaws.{HasRead, IsBeside, Labels, label_by, labeled_by, line_same, on_label, read_state, reads_in, reads_stay, same_in, steps_from, under_by}
 use Rattle.dg_volume.specs.Origins.{WasHeld}
 use Rattle.dg_volume.specs.Numbers.{unsettled_by}
 use Rattle.dg_volume.specs.Planned.{AnswersCheck, AreKnown, AreWanted, FindsOn, HasMovedArray, HasNoPlan, HasPlan, HasReadArray}
 use Rattle.dg_volume.specs.Seals.{Relabels}
 use Rattle.dg_volume.specs.Settles.{unsettled_reply}
-use Rattle.dg_volume.specs.Volumes.{FitsArray, IsWell, Known, Leaves, StandsFor, StandsIn, StepsTo, Tells, live_of, marks_by, marks_of, members_of, rack_of, reduced_of, shape_of, state_of, table_of}
+use Rattle.dg_volume.specs.Volumes.{FitsArray, HasLabel, IsWell, Known, Leaves, StandsFor, StandsIn, StandsUnder, StepsTo, Tells, line_of, live_of, marks_by, marks_of, members_of, rack_of, reduced_of, shape_of, state_of, table_of}
+use Rattle.dg_volume.specs.declared.in_use.InUse.{InUse}
 use Rattle.dg_volume.specs.declared.phases.InPhase as phases
 use Rattle.dg_volume.specs.declared.settles.Unsettled.{Unsettled}
 use Rattle.dg_volume.specs.declared.settles.Unsettled.TheVariants.{Lost, Malformed, NoSpace}
@@ -65,9 +65,13 @@ module _ {S R : Type 0} (phase : phases.Ghosts S) (rack : Ghosts R) where
     pub levels : b.levels.fragment ≡ a.levels.fragment
     pub array : HasMovedArray rack a.store b.store
     pub written : SameWritten (table_of a) (table_of b)
+    pub labeled : HasLabel rack a
     pub labels : Labels rack a b
     pub homes_are : AreHomes (shape_of b) b.homes
     pub few_homes : length b.homes ≤ (shape_of b).n
+
+  line_moved : (a b : Volume S R) → HasMoved a b → line_of b ≡ line_of a
+  line_moved a b h = line_same a b (ap (λ (u : InUse). u.long) h.in_use) h.array.stays.shape
 
   marks_moved : (a b : Volume S R) → HasMoved a b → marks_of phase b ≡ marks_of phase a
   marks_moved a b h = λ i. marks_by (phase.kept (h.phase_is i)) ((h.pending i).items)
@@ -85,7 +89,7 @@ module _ {S R : Type 0} (phase : phases.Ghosts S) (rack : Ghosts R) where
           levels = h.levels ∙ well.levels ∙ sym (ap (λ (x : Shape). x.l) shape);
           marks = ap length (marks_moved a b h) ∙ well.marks ∙ sym (ap (λ (x : Shape). x.n) shape);
           inferred = subst (λ (p : S). IfSome (phase.kept p) (FitsArray (shape_of b))) (sym h.phase_is) fits;
-          labeled = h.labels.labeled;
+          labeled = labeled_by rack a b (line_moved a b h) h.labels well.labeled;
           in_use = fits_same a b h.in_use shape h.written well.in_use;
           homes_are = h.homes_are;
           few_homes = h.few_homes;
@@ -95,6 +99,8 @@ module _ {S R : Type 0} (phase : phases.Ghosts S) (rack : Ghosts R) where
           settled = λ settled. absurd (loose_not_settled (sym still ∙ settled));
         };
         shape = shape;
+        boundaries = ap (λ (u : InUse). u.boundaries) h.in_use;
+        line = line_moved a b h;
         rise = h.array.stays.stays.rise;
         tells = h.array.stays.stays.tells;
         told_before = h.array.stays.stays.told_before;
@@ -115,19 +121,19 @@ module _ {S R : Type 0} (phase : phases.Ghosts S) (rack : Ghosts R) where
   abbrev moved_state : (a b : Volume S R) → HasMoved a b → State → List (List ℕ) → State
   moved_state a b h rest V = state_of phase rack b (on_label a b h.labels.opens rest) V
 
-  moved_in : {P : Type 0} → (a b : Volume S R) (rest : State) (V : List (List ℕ)) → StandsLabeled rack a.store a.label rest.label → (h : HasMoved a b) → (Known P rack a → StandsFor phase rack a V)
+  moved_in : {P : Type 0} → (a b : Volume S R) (rest : State) (V : List (List ℕ)) → StandsUnder rack a rest.label → (h : HasMoved a b) → (Known P rack a → StandsFor phase rack a V)
       → StandsIn phase rack P b (moved_state a b h rest V)
   moved_in a b rest V label h holds = record {
     is = refl;
-    label = h.labels.stands rest.label label;
+    label = under_by rack a b (line_moved a b h) h.labels h.labeled rest.label label;
     holds = λ told. stands_moved a b V h (told.0) (holds (told_before a b h told));
   }
 
-  moved_passes : (a b : Volume S R) (rest : State) → StandsLabeled rack a.store a.label rest.label → (h : HasMoved a b)
+  moved_passes : (a b : Volume S R) (rest : State) → StandsUnder rack a rest.label → (h : HasMoved a b)
       → KeepsLabel (rack.counts (rack_of a)).writes (rack.counts (rack_of b)).writes (members_of a) (members_of b) rest.label (on_label a b h.labels.opens rest).label
   moved_passes a b rest label h = label_by rack a b h.labels rest.label label
 
-  moved_goes : (a b : Volume S R) (rest : State) (V : List (List ℕ)) → StandsLabeled rack a.store a.label rest.label → (h : HasMoved a b)
+  moved_goes : (a b : Volume S R) (rest : State) (V : List (List ℕ)) → StandsUnder rack a rest.label → (h : HasMoved a b)
       → Goes (state_of phase rack a rest V) (moved_state a b h rest V)
   moved_goes a b rest V label h = record {
     passes = record {
@@ -141,7 +147,7 @@ module _ {S R : Type 0} (phase : phases.Ghosts S) (rack : Ghosts R) where
   }
 
   -- such a step in which no block was moved
-  moved_stays : (a b : Volume S R) (rest : State) (V : List (List ℕ)) → StandsLabeled rack a.store a.label rest.label → (h : HasMoved a b) → table_of b ≡ table_of a
+  moved_stays : (a b : Volume S R) (rest : State) (V : List (List ℕ)) → StandsUnder rack a rest.label → (h : HasMoved a b) → table_of b ≡ table_of a
       → b.homes ≡ a.homes → Stays (state_of phase rack a rest V) (moved_state a b h rest V)
   moved_stays a b rest V label h table homes = record {
     goes = moved_goes a b rest V label h;
@@ -184,6 +190,7 @@ module _ {S R : Type 0} (phase : phases.Ghosts S) (rack : Ghosts R) where
     levels = levels;
     array = h;
     written = written;
+    labeled = well.labeled;
     labels = labels;
     homes_are =
         subst (λ (x : Shape). AreHomes x b.homes) (sym h.stays.shape)
@@ -198,10 +205,10 @@ module _ {S R : Type 0} (phase : phases.Ghosts S) (rack : Ghosts R) where
   written_run a mid last read written = subst (λ (t : Table). SameWritten t (stores.table_of last)) read.reads.table written
 
   -- the label, where reads were followed by moves
-  pub labels_run : (a : Volume S R) (mid last : Store R) (label : Option KeptLabel) → HasReadArray rack a.store mid → HasMovedArray rack mid last → Relabels rack mid last a.label label
-      → Relabels rack a.store last a.label label
+  pub labels_run : (a : Volume S R) (mid last : Store R) (label : Option KeptLabel) → HasReadArray rack a.store mid → HasMovedArray rack mid last → Relabels rack (line_of a) mid last a.label label
+      → Relabels rack (line_of a) a.store last a.label label
   labels_run a mid last label read moved second =
-      relabels_behind rack a.store mid last a.label label read.reads second (λ q was good.
+      relabels_behind rack (line_of a) a.store mid last a.label label read.reads second (λ q was good.
       good_falls rack (rack.counts (stores.rack_of mid)).faults (rack.counts (stores.rack_of last)).faults (stores.members_of mid) (stores.members_of last) moved.falls q good)
 
   -- ---- what is inferred
@@ -415,7 +422,7 @@ module _ {S R : Type 0} (phase : phases.Ghosts S) (rack : Ghosts R) where
         → IsPlan (Known P rack b) (state_of phase rack a rest V) run.plan.wants run.plan.planned.found
     plan_at {P = p} rest V holds = is_plan (Known p rack b) a mid kept rest V run.keeps (λ known. run.told (known.0)) (held_at V holds) targets run.plan
 
-    cut_at : {P : Type 0} → (rest : State) (V : List (List ℕ)) (limit : Option ℕ) → StandsLabeled rack a.store a.label rest.label → b.homes ≡ a.homes → (Known P rack a → StandsFor phase rack a V)
+    cut_at : {P : Type 0} → (rest : State) (V : List (List ℕ)) (limit : Option ℕ) → StandsUnder rack a rest.label → b.homes ≡ a.homes → (Known P rack a → StandsFor phase rack a V)
         → IsCutByLoss (wants_of targets) limit (stores.table_of mid) (table_of b) (members_of b) → IsCut (Known P rack b) (state_of phase rack a rest V) limit (moved_state a b run.moves rest V)
     cut_at rest V limit label homes holds cut = record {
       wants = run.plan.wants;
@@ -525,13 +532,13 @@ module _ {S R : Type 0} (phase : phases.Ghosts S) (rack : Ghosts R) where
     -- the step of settling, to a state of a settled volume
     pub settle_step : {P : Type 0} → IsReady a → IsChecked a kept b → b.homes ≡ run.plan.planned.found.homes → has_lost (shape_of b) (members_of b) ≡ false
         → table_of b ≡ moved (wants_of targets) None (stores.table_of mid) → IsStill None
-        → (rest : State) (V : List (List ℕ)) → StandsLabeled rack a.store a.label rest.label → (Known P rack a → StandsFor phase rack a V)
-        → (last : Option LastLabel) × StandsLabeled rack b.store b.label last
+        → (rest : State) (V : List (List ℕ)) → StandsUnder rack a rest.label → (Known P rack a → StandsFor phase rack a V)
+        → (last : Option LastLabel) × StandsUnder rack b last
         × Step (Known P rack b) (state_of phase rack a rest V) Settle SettledReply (record (state_of phase rack b rest V) { phase = SettledPhase; label = last })
     settle_step ready check homes live is still rest V label holds =
         let done = on_plan (λ f t. table_of b ≡ moved f None t) is in (
           (on_label a b run.moves.labels.opens rest).label,
-          run.moves.labels.stands rest.label label,
+          under_by rack a b (line_moved a b run.moves) run.moves.labels run.moves.labeled rest.label label,
           (
             ready.whole,
             inr (

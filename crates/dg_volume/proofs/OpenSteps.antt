@@ -9,7 +9,8 @@ use Rattle.dg_infer.specs.Meanings as inferences
 use Rattle.dg_io.specs.MadeLaws.{same_both}
 use Rattle.dg_io.specs.Told.{IsSame, Told, Torn}
 use Rattle.dg_io.specs.declared.outside.Rack.{Ghosts}
-use Rattle.dg_label.specs.Labels.{AreNumbers, HasLength, IsLabeled, StandsLabeled}
+use Rattle.dg_label.specs.Labels.{HasLength, IsLabeled, StandsLabeled}
+use Rattle.dg_label.specs.LineLaws.{line_on, seal_on}
 use Rattle.dg_label.specs.declared.labels.KeptLabel.{KeptLabel}
 use Rattle.dg_model.specs.Blocks.{block_in}
 use Rattle.dg_model.specs.Causes.{Rose}
@@ -50,7 +51,7 @@ use Rattle.dg_volume.specs.Origins.{WasHeld}
 use Rattle.dg_volume.specs.Opens.{HasOpened, IsDisordered, IsMadeOf, IsOrdered, IsPhaseOf, IsRestored, had}
 use Rattle.dg_volume.specs.Phases.{kept_in, phase_in}
 use Rattle.dg_volume.specs.Planned.{HasReadArray}
-use Rattle.dg_volume.specs.Volumes.{FitsArray, IsInPlace, IsWell, Known, StandsIn, any_phase, cut_of, live_of, marks_by, marks_of, members_of, rack_of, reduced_of, shape_of, table_of}
+use Rattle.dg_volume.specs.Volumes.{FitsArray, IsInPlace, IsWell, Known, StandsIn, StandsUnder, any_phase, cut_of, line_of, live_of, marks_by, marks_of, members_of, rack_of, reduced_of, shape_of, table_of}
 use Rattle.dg_volume.specs.declared.phases.AnyPhase.{AnyPhase}
 use Rattle.dg_volume.specs.declared.phases.AnyPhase.TheVariants.{Loose, Settled, Worn}
 use Rattle.dg_volume.specs.declared.volumes.Volume.{Volume}
@@ -217,16 +218,16 @@ out_by before mid now old new q May earlier later was fall = elim was [
 -- ---- the label
 
 module _ {R : Type 0} (rack : Ghosts R) where
-  pub labeled_on : (old new : Store R) (label : Option KeptLabel) → HasReadArray rack old new → IsLabeled rack old label → IsLabeled rack new label
-  labeled_on old new label read is = let keeps = read.reads.keeps in record {
-    numbers = subst (λ (s : Shape). IfSome label (AreNumbers s)) (sym keeps.shape) is.numbers;
+  pub labeled_on : (line : Shape) (old new : Store R) (label : Option KeptLabel) → HasReadArray rack old new → IsLabeled rack line old label → IsLabeled rack line new label
+  labeled_on line old new label read is = let keeps = read.reads.keeps in record {
+    fits = line_on line (stores.shape_of old) (stores.shape_of new) keeps.shape is.fits;
+    numbers = is.numbers;
+    sealed = seal_on (stores.shape_of old) (stores.shape_of new) label keeps.shape is.sealed;
     lengths = λ q stays.
-        subst (λ (s : Shape). IfSome (rack.bytes (stores.rack_of new) q) (λ all. HasLength s label q (length all))) (sym keeps.shape)
-        (length_stays _ (HasLength (stores.shape_of old) label q) (rack.bytes (stores.rack_of old) q) (rack.bytes (stores.rack_of new) q) (keeps.beside q)
+        (length_stays _ (HasLength line label q) (rack.bytes (stores.rack_of old) q) (rack.bytes (stores.rack_of new) q) (keeps.beside q)
         (is.lengths q (λ out. elim (keeps.falls q) [ inl same ↦ stays (same ∙ out) | inr fallen ↦ stays fallen.out ])));
     filling = λ q fills.
-        subst (λ (s : Shape). IfSome (rack.bytes (stores.rack_of new) q) (λ all. length all ≡ member_length 2 s)) (sym keeps.shape)
-        (length_stays _ (λ n. n ≡ member_length 2 (stores.shape_of old)) (rack.bytes (stores.rack_of old) q) (rack.bytes (stores.rack_of new) q) (keeps.beside q)
+        (length_stays _ (λ n. n ≡ member_length 2 line) (rack.bytes (stores.rack_of old) q) (rack.bytes (stores.rack_of new) q) (keeps.beside q)
         (is.filling q (was_filling q fills)));
   }
     where
@@ -467,6 +468,12 @@ module _ (one : OneOwner) (none : NoSystem) {R : Type 0} (rack : Ghosts R) (befo
       let all : all_in_use (shape_of volume) ≡ reduced_of volume = λ i. record { boundaries = sym made.boundaries i; live = sym made.live i; cut = sym made.cut i } in
       subst (λ (r : Reduced). FitsReduced (table_of volume) r) all (fits_all (table_of volume) made.reads.sound.table)
 
+  -- members are as long by its own numbers
+  own_line : stores.shape_of start ≡ line_of volume
+  own_line =
+      let shape : shape_of volume ≡ stores.shape_of start = made.reads.reads.keeps.shape in
+      sym shape ∙ (λ i. record (shape_of volume) { b = sym made.long i })
+
   well : IsWell any_phase rack volume
   well = record {
     array = made.reads.sound;
@@ -474,7 +481,10 @@ module _ (one : OneOwner) (none : NoSystem) {R : Type 0} (rack : Ghosts R) (befo
     marks = marks_size rack start volume.store saved made.reads.reads.table volume.phase volume.pending.items (shape_of volume).n made.phase size (ap length made.pending ∙ size);
     inferred = fits_phase rack start volume.store saved made.reads.reads.table volume.phase made.phase;
     in_use = in_use_all;
-    labeled = subst (λ (l : Option KeptLabel). IsLabeled rack volume.store l) (sym made.label) (labeled_on rack start volume.store (Some reopened.label) made.reads found.labeled);
+    labeled =
+        subst (λ (x : Shape). IsLabeled rack x volume.store volume.label) own_line
+        (subst (λ (l : Option KeptLabel). IsLabeled rack (stores.shape_of start) volume.store l) (sym made.label)
+        (labeled_on rack (stores.shape_of start) start volume.store (Some reopened.label) made.reads found.labeled));
     homes_are = subst (λ (hs : List Home). AreHomes (shape_of volume) hs) (sym made.homes) (of_saved (λ t. AreHomes t.shape saved.homes) found.form.homes);
     few_homes = subst (λ (hs : List Home). length hs ≤ (shape_of volume).n) (sym made.homes) (of_saved (λ t. length saved.homes ≤ t.shape.n) found.form.few_homes);
     copies_are = subst (λ (cs : List Home). AreHomes (shape_of volume) cs) (sym made.copies)
@@ -503,20 +513,21 @@ module _ (one : OneOwner) (none : NoSystem) {R : Type 0} (rack : Ghosts R) (befo
     | inr fell ↦ absurd (here fell.out)
   ]
 
-  stands_labeled : StandsLabeled rack volume.store volume.label (Some last)
+  stands_labeled : StandsUnder rack volume (Some last)
   stands_labeled =
-      let through = stands_through rack start volume.store (Some reopened.label) (Some (opened_label found.source found.label saved start)) made.reads.reads.keeps found.stands in
-      subst (λ (l : Option KeptLabel). StandsLabeled rack volume.store l (Some last)) (sym made.label) (record {
+      let through = stands_through rack (stores.shape_of start) start volume.store (Some reopened.label) (Some (opened_label found.source found.label saved start)) made.reads.reads.keeps found.stands in
+      subst (λ (x : Shape). StandsLabeled rack x volume.store volume.label (Some last)) own_line
+      (subst (λ (l : Option KeptLabel). StandsLabeled rack (stores.shape_of start) volume.store l (Some last)) (sym made.label) (record {
         kept = record { format = through.kept.format; sequence = through.kept.sequence; sealed = through.kept.sealed; body = through.kept.body };
         holds = record {
           label = λ q good. through.holds.label q (was_good q good);
           body = λ q has sealed. through.holds.body q (has_before q has) sealed;
         };
-        sizes = λ q good. through.sizes q (was_good q good);
-        of_array = record { shape_is = through.of_array.shape_is; numbers_are = through.of_array.numbers_are };
+        sizes = λ named q good. through.sizes named q (was_good q good);
+        of_array = λ why. let is = through.of_array why in record { shape_is = is.shape_is; numbers_are = is.numbers_are };
         filling = λ q fills. filling_not_good (members_of volume q) fills;
         fresh = λ q below here lacks. absurd (false≢true (sym lacks ∙ good_or_out q here));
-      })
+      }))
     where
       has_before : (q : ℕ) → ((q == found.source) && is_good (members_of volume q)) ≡ true → ((q == found.source) && is_good (stores.members_of start q)) ≡ true
       has_before q has =

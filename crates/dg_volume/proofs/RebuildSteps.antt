@@ -6,7 +6,6 @@ use Rattle.std.proofs.lemmas.List.{length-replicate}
 use Rattle.dg_infer.specs.Meanings as inferences
 use Rattle.dg_infer.specs.Wants.{IsWantBy}
 use Rattle.dg_io.specs.declared.outside.Rack.{Ghosts}
-use Rattle.dg_label.specs.Labels.{StandsLabeled}
 use Rattle.dg_label.specs.Seals.{KeepsArray}
 use Rattle.dg_label.specs.declared.labels.KeptLabel.{KeptLabel}
 use Rattle.dg_model.proofs.MemberLaws.{good_was, rose_before}
@@ -50,14 +49,15 @@ use Rattle.dg_volume.proofs.RebuildMarks.{both_out, by_loss, copied_not_lost, de
 use Rattle.dg_volume.proofs.RefillBehind.{HasSlots, falls_behind, filling_was, live_before, lost_behind, others_behind, slots_behind}
 use Rattle.dg_volume.proofs.RefillLaws.{filling_live, left_outs, lost_none_filling, lost_where_left}
 use Rattle.dg_volume.proofs.UseLaws.{HasPlace, IsUnused, fits_as, lost_in, lost_of, place_on, unused_lost}
-use Rattle.dg_volume.proofs.VolumeLaws.{IsBeside, Keeps, Labels, StepsAt, holds_on, kept_state, label_by, leaves, lost_on, on_label, quiet_in, still_in}
+use Rattle.dg_volume.proofs.VolumeLaws.{IsBeside, Keeps, Labels, StepsAt, holds_on, kept_state, label_by, labeled_by, leaves, line_same, lost_on, on_label, quiet_in, still_in, under_by}
 use Rattle.dg_volume.proofs.VolumeSteps.{false_of}
 use Rattle.dg_volume.specs.Origins.{Origin, WasHeld}
 use Rattle.dg_volume.specs.Faults.{OutsStay, TellsFaults}
 use Rattle.dg_volume.specs.Phases.{CanReapAll}
 use Rattle.dg_volume.specs.Seals.{Relabels}
 use Rattle.dg_volume.specs.Refills.{AreReapMarks, AreReaped, HasFilling, IsDeadMark, SparesFiles, rebuild_reply, rebuilt_at, told_of}
-use Rattle.dg_volume.specs.Volumes.{FitsArray, IsInPlace, IsWell, Known, Leaves, StandsFor, StandsIn, StepsSized, Tells, marks_by, marks_of, members_of, rack_of, shape_of, state_of, table_of}
+use Rattle.dg_volume.specs.Volumes.{FitsArray, HasLabel, IsInPlace, IsWell, Known, Leaves, StandsFor, StandsIn, StandsUnder, StepsSized, Tells, line_of, marks_by, marks_of, members_of, rack_of, shape_of, state_of, table_of}
+use Rattle.dg_volume.specs.declared.in_use.InUse.{InUse}
 use Rattle.dg_volume.specs.declared.phases.InPhase as phases
 use Rattle.dg_volume.specs.declared.refills.RebuildAnswer as rebuilds
 use Rattle.dg_volume.specs.declared.refills.RebuildAnswer.TheVariants.{Failed as RebuildFailed, Lost as RebuildLost}
@@ -244,11 +244,11 @@ module _ {S R : Type 0} (phase : phases.Ghosts S) (rack : Ghosts R) where
       inr (left_slots a m c marks s k.low k.high k.came.members.q k.low (Filling k.high) before after opening k.came.slots k.came.members.was k.came.members.left)
 
   pub rebuilt_labels : {E : Type 0} (a : Volume S R) (m : Store R) (s n : ℕ) (marks : List Bool) (before after : List ℕ) (result : Result RebuildAnswer E) (c : Store R) (label : Option KeptLabel)
-      → KeepsArray rack a.store m → CallsRebuild m s n marks before after result c → (first : Relabels rack a.store m a.label label)
-      → (first.opens ≡ false → stores.rack_of c ≡ stores.rack_of m) → Relabels rack a.store c a.label label
+      → KeepsArray rack a.store m → CallsRebuild m s n marks before after result c → (first : Relabels rack (line_of a) a.store m a.label label)
+      → (first.opens ≡ false → stores.rack_of c ≡ stores.rack_of m) → Relabels rack (line_of a) a.store c a.label label
   rebuilt_labels a m s n marks before after result c label opening h first still = elim (rebuilt_by a m s n marks before after result c opening h) [
-    | inl same ↦ subst (λ (x : Store R). Relabels rack a.store x a.label label) (sym same) first
-    | inr slots ↦ relabels_then rack a.store m c a.label label first slots (λ closed. ap (λ (r : R). (rack.counts r).writes) (still closed))
+    | inl same ↦ subst (λ (x : Store R). Relabels rack (line_of a) a.store x a.label label) (sym same) first
+    | inr slots ↦ relabels_then rack (line_of a) a.store m c a.label label first slots (λ closed. ap (λ (r : R). (rack.counts r).writes) (still closed))
   ]
 
   -- where no member is refilled no call is made
@@ -328,7 +328,7 @@ module _ {S R : Type 0} (phase : phases.Ghosts S) (rack : Ghosts R) where
           levels = h.levels ∙ well.levels ∙ sym (ap (λ (x : Shape). x.l) same_shape);
           marks = ap length same_marks ∙ well.marks ∙ sym (ap (λ (x : Shape). x.n) same_shape);
           inferred = subst (λ (p : S). IfSome (phase.kept p) (FitsArray (shape_of b))) (sym h.beside.phase_is) fits;
-          labeled = h.labels.labeled;
+          labeled = labeled_by rack a b (line_same a b (ap (λ (u : InUse). u.long) h.beside.in_use) same_shape) h.labels well.labeled;
           in_use = fits_as a b h.beside.in_use same_shape (λ c none. subst (λ (xs : List Site). has_site xs ≡ false) (sym (sites c)) (bare_left (is_among reaped c) (sites_in (table_of a) c) none)) well.in_use;
           homes_are = subst (λ (x : List Home). AreHomes (shape_of b) x) (sym h.beside.homes) homes;
           few_homes =
@@ -343,7 +343,7 @@ module _ {S R : Type 0} (phase : phases.Ghosts S) (rack : Ghosts R) where
         }
 
     leaves_passed : Leaves phase phase rack a b
-    leaves_passed = record { well = well_passed; shape = same_shape; rise = passed.slots.stays.stays.rise; tells = passed.slots.stays.stays.tells; told_before = passed.slots.stays.stays.told_before; own = passed.slots.stays.own; same_rack = passed.slots.stays.stays.same_rack }
+    leaves_passed = record { well = well_passed; shape = same_shape; boundaries = ap (λ (u : InUse). u.boundaries) h.beside.in_use; line = line_same a b (ap (λ (u : InUse). u.long) h.beside.in_use) same_shape; rise = passed.slots.stays.stays.rise; tells = passed.slots.stays.stays.tells; told_before = passed.slots.stays.stays.told_before; own = passed.slots.stays.own; same_rack = passed.slots.stays.stays.same_rack }
 
     told_before : {P : Type 0} → Known P rack b → Known P rack a
     told_before known = (λ q below. passed.slots.stays.stays.told_before q (known.0 q (subst (λ (x : Shape). q / 2 < x.b) (sym same_shape) below)), known.1)
@@ -386,7 +386,7 @@ module _ {S R : Type 0} (phase : phases.Ghosts S) (rack : Ghosts R) where
 
     -- ---- states
 
-    module _ {P : Type 0} (rest : State) (V : List (List ℕ)) (label : StandsLabeled rack a.store a.label rest.label) (size : length V ≡ (shape_of a).n) (holds : Known P rack a → StandsFor phase rack a V) where
+    module _ {P : Type 0} (rest : State) (V : List (List ℕ)) (label : StandsUnder rack a rest.label) (size : length V ≡ (shape_of a).n) (holds : Known P rack a → StandsFor phase rack a V) where
       abbrev was : State
       was = state_of phase rack a rest V
 
@@ -394,7 +394,7 @@ module _ {S R : Type 0} (phase : phases.Ghosts S) (rack : Ghosts R) where
       next = state_of phase rack b (on_label a b h.labels.opens rest) (zeroed (shape_of a).l reaped V)
 
       next_in : StandsIn phase rack P b next
-      next_in = record { is = refl; label = h.labels.stands rest.label label; holds = λ told. stands_passed V (told.0) (holds (told_before told)) }
+      next_in = record { is = refl; label = under_by rack a b (line_same a b (ap (λ (u : InUse). u.long) h.beside.in_use) same_shape) h.labels h.well.labeled rest.label label; holds = λ told. stands_passed V (told.0) (holds (told_before told)) }
 
       mid_shape : stores.shape_of m ≡ shape_of a
       mid_shape = h.opening.stays.shape
@@ -459,7 +459,7 @@ module _ {S R : Type 0} (phase : phases.Ghosts S) (rack : Ghosts R) where
 
   -- a step of each state that has a block for each of the array's
   sized : (a b : Volume S R) (event : Event) (reply : Reply)
-      → ((origin : Origin) (rest : State) (V : List (List ℕ)) → StandsLabeled rack a.store a.label rest.label → length V ≡ (shape_of a).n
+      → ((origin : Origin) (rest : State) (V : List (List ℕ)) → StandsUnder rack a rest.label → length V ≡ (shape_of a).n
       → (Known (WasHeld origin) rack a → StandsFor phase rack a V) → StepsAt phase rack (WasHeld origin) (λ recent. recent) a rest V event reply b)
       → StepsSized phase phase rack a event reply b
   sized a b event reply go origin state st size =
@@ -483,12 +483,13 @@ module _ {S R : Type 0} (phase : phases.Ghosts S) (rack : Ghosts R) where
   }
 
   -- each block keeps its sites
-  opened_keeps : (a : Volume S R) (m : Store R) (b : Volume S R) → KeepsArray rack a.store m → Labels rack a b → IsBeside phase rack a b → b.levels.fragment ≡ a.levels.fragment → b.store ≡ m
+  opened_keeps : (a : Volume S R) (m : Store R) (b : Volume S R) → HasLabel rack a → KeepsArray rack a.store m → Labels rack a b → IsBeside phase rack a b → b.levels.fragment ≡ a.levels.fragment → b.store ≡ m
       → Keeps phase rack a b
-  opened_keeps a m b opening labels beside levels same =
+  opened_keeps a m b labeled opening labels beside levels same =
       let now : KeepsArray rack a.store b.store = subst (λ (x : Store R). KeepsArray rack a.store x) (sym same) opening in
       record {
         beside = beside;
+        labeled = labeled;
         levels = levels;
         sound = now.sound;
         table = now.table;
@@ -518,7 +519,7 @@ module _ {S R : Type 0} (phase : phases.Ghosts S) (rack : Ghosts R) where
   pub rebuild_leaves : {E : Type 0} (a : Volume S R) (m : Store R) (s n : ℕ) (marks : List Bool) (before after : List ℕ) (result : Result RebuildAnswer E) (b : Volume S R) → IsWell phase rack a
       → HasRebuilt a m s n marks before after result b → Leaves phase phase rack a b
   rebuild_leaves a m s n marks before after result b well h = elim (outcome a m s n marks before after result b h) [
-    | inl same ↦ leaves phase rack a b well (opened_keeps a m b h.opening h.labels h.beside h.levels same)
+    | inl same ↦ leaves phase rack a b well (opened_keeps a m b well.labeled h.opening h.labels h.beside h.levels same)
     | inr passed ↦ leaves_passed a m marks s after b (usual a m s n marks before after result b well h) passed
   ]
 
@@ -529,7 +530,7 @@ module _ {S R : Type 0} (phase : phases.Ghosts S) (rack : Ghosts R) where
   pub rebuild_spares : {E : Type 0} (law : LooseBlocksChange) (a : Volume S R) (m : Store R) (s n : ℕ) (marks : List Bool) (before after : List ℕ) (result : Result RebuildAnswer E) (b : Volume S R) → IsWell phase rack a
       → HasRebuilt a m s n marks before after result b → SparesFiles phase rack a b
   rebuild_spares law a m s n marks before after result b well h V told held = elim (outcome a m s n marks before after result b h) [
-    | inl same ↦ still_spares law a b (opened_keeps a m b h.opening h.labels h.beside h.levels same) V told held
+    | inl same ↦ still_spares law a b (opened_keeps a m b well.labeled h.opening h.labels h.beside h.levels same) V told held
     | inr passed ↦ spares_passed a m marks s after b (usual a m s n marks before after result b well h) passed law V told held
   ]
 
@@ -537,13 +538,14 @@ module _ {S R : Type 0} (phase : phases.Ghosts S) (rack : Ghosts R) where
 
   -- the seal was opened, and that is all
   pub record HasOpened (a : Volume S R) (b : Volume S R) : Type 0 where
+    pub labeled : HasLabel rack a
     pub beside : IsBeside phase rack a b
     pub levels : b.levels.fragment ≡ a.levels.fragment
     pub opening : KeepsArray rack a.store b.store
     pub labels : Labels rack a b
 
   keeps_opened : (a b : Volume S R) → HasOpened a b → Keeps phase rack a b
-  keeps_opened a b h = opened_keeps a b.store b h.opening h.labels h.beside h.levels refl
+  keeps_opened a b h = opened_keeps a b.store b h.labeled h.opening h.labels h.beside h.levels refl
 
   pub opened_leaves : (a b : Volume S R) → IsWell phase rack a → HasOpened a b → Leaves phase phase rack a b
   opened_leaves a b well h = leaves phase rack a b well (keeps_opened a b h)
@@ -551,7 +553,7 @@ module _ {S R : Type 0} (phase : phases.Ghosts S) (rack : Ghosts R) where
   pub opened_spares : (law : LooseBlocksChange) (a b : Volume S R) → HasOpened a b → SparesFiles phase rack a b
   opened_spares law a b h = still_spares law a b (keeps_opened a b h)
 
-  breaks_at_once : {P : Type 0} → (a b : Volume S R) (s : ℕ) → IsSound rack a.store → (h : HasOpened a b) (rest : State) (V : List (List ℕ)) (label : StandsLabeled rack a.store a.label rest.label)
+  breaks_at_once : {P : Type 0} → (a b : Volume S R) (s : ℕ) → IsSound rack a.store → (h : HasOpened a b) (rest : State) (V : List (List ℕ)) (label : StandsUnder rack a rest.label)
       → BreaksOff (Known P rack b) (state_of phase rack a rest V) s (kept_state phase rack a b (keeps_opened a b h) rest V)
   breaks_at_once a b s sound h rest V label =
       let keeps = keeps_opened a b h in
@@ -685,7 +687,7 @@ module _ {S R : Type 0} (phase : phases.Ghosts S) (rack : Ghosts R) where
 
   breaks_off : {P : Type 0} → (a : Volume S R) (m : Store R) (s : ℕ) (marks : List Bool) (before after : List ℕ) (b : Volume S R) (none : before ≡ []) (all : IsUsual a m marks after b)
       (left : arrays.Stays rack m b.store) (k : answers.HasBrokenOff rack marks s before after m b.store)
-      (rest : State) (V : List (List ℕ)) (label : StandsLabeled rack a.store a.label rest.label) (size : length V ≡ (shape_of a).n) (holds : Known P rack a → StandsFor phase rack a V)
+      (rest : State) (V : List (List ℕ)) (label : StandsUnder rack a rest.label) (size : length V ≡ (shape_of a).n) (holds : Known P rack a → StandsFor phase rack a V)
       → BreaksOff (Known P rack b) (state_of phase rack a rest V) s (next a m marks s after b all (passed_broken a m s marks before after b none all.opening k) rest V label size holds)
   breaks_off a m s marks before after b none all left k rest V label size holds = record {
     low = k.low;
@@ -705,7 +707,7 @@ module _ {S R : Type 0} (phase : phases.Ghosts S) (rack : Ghosts R) where
       let same : b.store ≡ a.store = (h.call.quiet none).0 ∙ still.0 in
       sized a b (Rebuild h.number n) (LostReply h.number) (λ origin rest V label size holds. (
         state_of phase rack b rest V,
-        quiet_in phase rack a b rest V label (opened_keeps a m b h.opening h.labels h.beside h.levels (h.call.quiet none).0) (ap (λ (x : Store R). stores.rack_of x) same) still.1
+        quiet_in phase rack a b rest V label (opened_keeps a m b well.labeled h.opening h.labels h.beside h.levels (h.call.quiet none).0) (ap (λ (x : Store R). stores.rack_of x) same) still.1
             (λ q out. ap (λ (x : Store R). stores.members_of x q) same ∙ out)
             (λ q fills. ap (λ (x : Store R). is_filling (stores.members_of x q)) (sym same) ∙ fills) holds,
         (h.place.number, refl, inl (lost_in a (members_of a) h.number s h.place (subst (λ (x : Store R). is_lost (stores.members_of x) s ≡ true) still.0 is), quiet_state a b h.beside same rest V)),
@@ -739,7 +741,7 @@ module _ {S R : Type 0} (phase : phases.Ghosts S) (rack : Ghosts R) where
       let same : b.store ≡ a.store = (h.call.quiet k.0).0 ∙ still.0 in
       sized a b (Rebuild h.number n) NotFillingReply (λ origin rest V label size holds. (
         state_of phase rack b rest V,
-        quiet_in phase rack a b rest V label (opened_keeps a m b h.opening h.labels h.beside h.levels (h.call.quiet k.0).0) (ap (λ (x : Store R). stores.rack_of x) same) still.1
+        quiet_in phase rack a b rest V label (opened_keeps a m b well.labeled h.opening h.labels h.beside h.levels (h.call.quiet k.0).0) (ap (λ (x : Store R). stores.rack_of x) same) still.1
             (λ q out. ap (λ (x : Store R). stores.members_of x q) same ∙ out)
             (λ q fills. ap (λ (x : Store R). is_filling (stores.members_of x q)) (sym same) ∙ fills) holds,
         (

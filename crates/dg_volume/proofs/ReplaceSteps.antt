@@ -5,12 +5,14 @@ use Rattle.std.proofs.lemmas.Bool.{cases_eq, cases_lt, eq-eqb, false≢true, ne_
 use Rattle.std.proofs.lemmas.List.{length-replicate, take-replicate}
 use Rattle.dg_io.specs.Told.{IsZeros, Told, Torn}
 use Rattle.dg_io.specs.declared.outside.Rack.{Ghosts}
-use Rattle.dg_label.specs.Labels.{AreNumbers, HasLength, HaveSameNumbers, IsLabeled, NotesLong, StandsLabeled, is_long}
+use Rattle.dg_label.specs.Labels.{HasLength, HaveSameNumbers, IsLabeled, NotesLong, is_long}
+use Rattle.dg_label.specs.LineLaws.{line_on, own_seal, place_is, room_fits, seal_on}
+use Rattle.dg_label.specs.Lines.{IsLineOf}
 use Rattle.dg_label.specs.declared.labels.KeptLabel.{KeptLabel}
 use Rattle.dg_model.proofs.MemberLaws.{NoneRecovers, falls_both, rose_after, rose_before}
 use Rattle.dg_model.specs.Changes.{IsMember, Misses, Passes, Replaces}
 use Rattle.dg_model.specs.Members.{MembersFall, OthersFall, is_filling, is_good, is_lost, partner_of}
-use Rattle.dg_model.specs.Saves.{member_length}
+use Rattle.dg_model.specs.Saves.{member_length, room_of}
 use Rattle.dg_model.specs.States.{CountsRise, State, after_calls}
 use Rattle.dg_model.specs.Tables.{Table}
 use Rattle.dg_model.specs.declared.events.Event.TheVariants.{Replace}
@@ -46,7 +48,7 @@ use Rattle.dg_volume.proofs.VolumeLaws.{IsBeside, Keeps, Labels, kept_state, lab
 use Rattle.dg_volume.proofs.VolumeSteps.{false_of}
 use Rattle.dg_volume.specs.Faults.{OutsStay, TellsFaults, faults_of}
 use Rattle.dg_volume.specs.Seals.{OpensWhere, Relabels}
-use Rattle.dg_volume.specs.Volumes.{IsWell, Known, Leaves, StandsFor, StandsIn, StepsTo, marks_by, members_of, rack_of, shape_of, state_of, table_of}
+use Rattle.dg_volume.specs.Volumes.{HasLabel, IsWell, Known, Leaves, StandsFor, StandsIn, StandsUnder, StepsTo, line_of, marks_by, members_of, rack_of, shape_of, state_of, table_of}
 use Rattle.dg_volume.specs.declared.phases.InPhase as phases
 use Rattle.dg_volume.specs.declared.volumes.Volume.{Volume}
 
@@ -82,6 +84,17 @@ replaced_failed e = cc e
 lost_stood : Lost ≡ NotOut → ⊥
 lost_stood e = cc e
 
+-- a member that is as long as format 2 says of the line has room for the slots
+pub line_enough : (line shape : Shape) → IsLineOf line shape → member_length 1 shape ≤ member_length 2 line
+line_enough line shape fits =
+    let place = place_is line shape fits in
+    let room = room_fits line shape 1 fits in
+    let more = format_two line in
+    omega (arith, place, room, more)
+  where
+    format_two : (s : Shape) → room_of 1 s ≤ room_of 2 s
+    format_two s = omega arith
+
 lost_same : (s : ℕ) (old new : ℕ → MemberState) → ((q : ℕ) → new q ≡ old q) → is_lost old s ≡ true → is_lost new s ≡ true
 lost_same s old new same lost = subst (λ (x : ℕ → MemberState). is_lost x s ≡ true) (sym (λ i q. same q i)) lost
 
@@ -93,7 +106,7 @@ module _ {S R : Type 0} (phase : phases.Ghosts S) (rack : Ghosts R) where
     pub side : j < 2
     pub beside : IsBeside phase rack a b
     pub levels : b.levels.fragment ≡ a.levels.fragment
-    pub labeled : IsLabeled rack a.store a.label
+    pub labeled : HasLabel rack a
     pub mid : Option KeptLabel
     pub opening : OpensWhere rack writes a.store m a.label mid
     pub noted : answer ≡ Replaced → NotesLong (2 * s + j) mid b.label
@@ -108,7 +121,7 @@ module _ {S R : Type 0} (phase : phases.Ghosts S) (rack : Ghosts R) where
     pub not_out : (answer ≡ NotOut) ↔ (stores.members_of m (2 * s + j) ≢ Out)
     pub failed : answer ≡ Failed → FaultRose rack m b.store (2 * s + j)
     pub members : (q : ℕ) → members_of b q ≡ replaced answer (2 * s + j) (stores.members_of m) q
-    pub blank : answer ≡ Replaced → BytesChange rack m b.store (2 * s + j) (IsZeros (member_length 2 (stores.shape_of m)))
+    pub blank : answer ≡ Replaced → BytesChange rack m b.store (2 * s + j) (IsZeros (member_length 2 (line_of a)))
     pub other_bytes : OnlyBytesOf rack m b.store (2 * s + j)
     pub other_faults : OnlyFaultsOf rack m b.store (2 * s + j)
     pub faulty : (q : ℕ) → faults_of rack m q < faults_of rack b.store q → members_of b q ≡ Out
@@ -225,8 +238,8 @@ module _ {S R : Type 0} (phase : phases.Ghosts S) (rack : Ghosts R) where
 
     -- ---- the label
 
-    opened_first : (first : Relabels rack a.store m a.label h.mid) × (first.opens ≡ writes)
-    opened_first = relabels_where rack writes a.store m a.label h.mid h.labeled (λ is. good_live rack a.store s (h.live is)) h.opening
+    opened_first : (first : Relabels rack (line_of a) a.store m a.label h.mid) × (first.opens ≡ writes)
+    opened_first = relabels_where rack (line_of a) writes a.store m a.label h.mid (λ is. good_live rack a.store s (h.live is)) h.opening
 
     not_failed : answer ≡ Failed → answer ≢ Replaced
     not_failed is anew = replaced_failed (sym anew ∙ is)
@@ -282,27 +295,31 @@ module _ {S R : Type 0} (phase : phases.Ghosts S) (rack : Ghosts R) where
       | inr apart ↦ other_beside q apart
     ]
 
+    -- the label fits the array in between
+    labeled_mid : IsLabeled rack (line_of a) m h.mid
+    labeled_mid = h.opening.labeled (line_of a) h.labeled
+
     shape_is : shape_of b ≡ stores.shape_of m
     shape_is = h.left.shape
 
     abbrev LongEnough : ℕ → Type 0
-    LongEnough q = IfSome (rack.bytes (rack_of b) q) (λ all. HasLength (stores.shape_of m) b.label q (length all))
+    LongEnough q = IfSome (rack.bytes (rack_of b) q) (λ all. HasLength (line_of a) b.label q (length all))
 
     -- so many bytes
     abbrev SizedBy : Option (List ℕ) → Bool → Type 0
-    SizedBy told long = IfSome told (λ all. length all ≡ member_length (if long then 2 else 1) (stores.shape_of m))
+    SizedBy told long = IfSome told (λ all. length all ≡ member_length (if long then 2 else 1) (line_of a))
 
     long_as : (q : ℕ) → is_long b.label q ≡ is_long h.mid q → stores.members_of m q ≢ Out → Beside q → LongEnough q
     long_as q same stood beside =
         subst (λ (long : Bool). SizedBy (rack.bytes (rack_of b) q) long) (sym same)
-        (length_stays (((stores.shape_of m).k + 1) * (stores.shape_of m).l) (λ size. HasLength (stores.shape_of m) h.mid q size) (rack.bytes (stores.rack_of m) q) (rack.bytes (rack_of b) q) beside
-        (h.opening.labeled.lengths q stood))
+        (length_stays (((stores.shape_of m).k + 1) * (stores.shape_of m).l) (λ size. HasLength (line_of a) h.mid q size) (rack.bytes (stores.rack_of m) q) (rack.bytes (rack_of b) q) beside
+        (labeled_mid.lengths q stood))
 
-    fills_anew : (before now : Option (List ℕ)) → Told (IsZeros (member_length 2 (stores.shape_of m))) before now → IfSome now (λ all. length all ≡ member_length 2 (stores.shape_of m))
+    fills_anew : (before now : Option (List ℕ)) → Told (IsZeros (member_length 2 (line_of a))) before now → IfSome now (λ all. length all ≡ member_length 2 (line_of a))
     fills_anew None None told = tt
     fills_anew (Some x) None told = tt
     fills_anew None (Some y) told = absurd told
-    fills_anew (Some x) (Some y) told = ap length told ∙ length-replicate (member_length 2 (stores.shape_of m)) 0
+    fills_anew (Some x) (Some y) told = ap length told ∙ length-replicate (member_length 2 (line_of a)) 0
 
     long_at : (q : ℕ) → members_of b q ≢ Out → LongEnough q
     long_at q here = elim (cases_eq q (2 * s + j)) [
@@ -320,12 +337,12 @@ module _ {S R : Type 0} (phase : phases.Ghosts S) (rack : Ghosts R) where
     ]
 
     abbrev FillsWhole : ℕ → Type 0
-    FillsWhole q = IfSome (rack.bytes (rack_of b) q) (λ all. length all ≡ member_length 2 (stores.shape_of m))
+    FillsWhole q = IfSome (rack.bytes (rack_of b) q) (λ all. length all ≡ member_length 2 (line_of a))
 
     fills_as : (q : ℕ) → is_filling (stores.members_of m q) ≡ true → Beside q → FillsWhole q
     fills_as q fills beside =
-        length_stays (((stores.shape_of m).k + 1) * (stores.shape_of m).l) (λ size. size ≡ member_length 2 (stores.shape_of m)) (rack.bytes (stores.rack_of m) q) (rack.bytes (rack_of b) q) beside
-        (h.opening.labeled.filling q fills)
+        length_stays (((stores.shape_of m).k + 1) * (stores.shape_of m).l) (λ size. size ≡ member_length 2 (line_of a)) (rack.bytes (stores.rack_of m) q) (rack.bytes (rack_of b) q) beside
+        (labeled_mid.filling q fills)
 
     fills_at : (q : ℕ) → is_filling (members_of b q) ≡ true → FillsWhole q
     fills_at q fills = elim (cases_eq q (2 * s + j)) [
@@ -340,21 +357,23 @@ module _ {S R : Type 0} (phase : phases.Ghosts S) (rack : Ghosts R) where
       | inr apart ↦ fills_as q (sym (ap is_filling (stays_at q apart)) ∙ fills) (other_beside q apart)
     ]
 
-    labeled_now : IsLabeled rack b.store b.label
+    labeled_now : IsLabeled rack (line_of a) b.store b.label
     labeled_now = record {
-      numbers = subst (λ (x : Shape). IfSome b.label (AreNumbers x)) (sym shape_is) (noted_numbers (stores.shape_of m) h.mid b.label numbers_noted h.opening.labeled.numbers);
-      lengths = λ q here. subst (λ (x : Shape). IfSome (rack.bytes (rack_of b) q) (λ all. HasLength x b.label q (length all))) (sym shape_is) (long_at q here);
-      filling = λ q fills. subst (λ (x : Shape). IfSome (rack.bytes (rack_of b) q) (λ all. length all ≡ member_length 2 x)) (sym shape_is) (fills_at q fills);
+      fits = line_on (line_of a) (stores.shape_of m) (shape_of b) shape_is labeled_mid.fits;
+      numbers = noted_numbers (line_of a) h.mid b.label numbers_noted labeled_mid.numbers;
+      sealed = own_seal (shape_of b) h.mid b.label numbers_noted (seal_on (stores.shape_of m) (shape_of b) h.mid shape_is labeled_mid.sealed);
+      lengths = long_at;
+      filling = fills_at;
     }
 
     recovers_none : (q : ℕ) → is_good (members_of b q) ≡ true → is_good (stores.members_of m q) ≡ true
     recovers_none = none_recovers answer (2 * s + j) (stores.members_of m) (members_of b) h.members
 
-    none_anew : (before now : Option (List ℕ)) → Told (IsZeros (member_length 2 (stores.shape_of m))) before now → HasNone now
+    none_anew : (before now : Option (List ℕ)) → Told (IsZeros (member_length 2 (line_of a))) before now → HasNone now
     none_anew None None told = tt
     none_anew (Some x) None told = tt
     none_anew None (Some y) told = absurd told
-    none_anew (Some x) (Some y) told = ap (λ (xs : List ℕ). take 512 xs) told ∙ take-replicate 512 (member_length 2 (stores.shape_of m)) 0 (omega arith)
+    none_anew (Some x) (Some y) told = ap (λ (xs : List ℕ). take 512 xs) told ∙ take-replicate 512 (member_length 2 (line_of a)) 0 (omega arith)
 
     -- the member that was made anew has no label
     none_at : (q : ℕ) → q ≡ 2 * s + j → answer ≡ Replaced → HasNone (rack.bytes (rack_of b) q)
@@ -399,7 +418,7 @@ module _ {S R : Type 0} (phase : phases.Ghosts S) (rack : Ghosts R) where
     labels_now =
         let first = opened_first.0 in
         let opens = opened_first.1 in
-        relabels_noted rack a.store m b.store a.label h.mid b.label first numbers_noted labeled_now (record {
+        relabels_noted rack (line_of a) a.store m b.store a.label h.mid b.label first numbers_noted (λ labeled. labeled_now) (record {
           shape = shape_is;
           rise = h.left.stays.rise.writes;
           back = λ q was good. recovers_none q good;
@@ -415,6 +434,7 @@ module _ {S R : Type 0} (phase : phases.Ghosts S) (rack : Ghosts R) where
     replace_keeps : Keeps phase rack a b
     replace_keeps = record {
       beside = h.beside;
+      labeled = h.labeled;
       levels = h.levels;
       sound = h.sound;
       table = h.table ∙ h.opening.array.table;
@@ -487,7 +507,7 @@ module _ {S R : Type 0} (phase : phases.Ghosts S) (rack : Ghosts R) where
           counts = rack.counts (rack_is i);
         }
 
-    same_next : {P : Type 0} → writes ≡ false → (rest : State) (V : List (List ℕ)) → StandsLabeled rack a.store a.label rest.label → (Known P rack a → StandsFor phase rack a V)
+    same_next : {P : Type 0} → writes ≡ false → (rest : State) (V : List (List ℕ)) → StandsUnder rack a rest.label → (Known P rack a → StandsFor phase rack a V)
         → StandsIn phase rack P b (state_of phase rack b rest V)
     same_next none rest V label holds =
         quiet_in phase rack a b rest V label replace_keeps (quiet_where none ∙ ap (λ (x : Store R). stores.rack_of x) (h.opening.quiet none).0)
@@ -499,7 +519,7 @@ module _ {S R : Type 0} (phase : phases.Ghosts S) (rack : Ghosts R) where
   replace_leaves a s j answer writes m b well h = leaves phase rack a b well (replace_keeps a s j answer writes m b h)
 
   module _ (a : Volume S R) (s j : ℕ) (answer : ReplaceAnswer) (writes : Bool) (m : Store R) (b : Volume S R) (h : HasReplaced a s j answer writes m b) (rest : State) (V : List (List ℕ)) where
-    passes_replaced : StandsLabeled rack a.store a.label rest.label
+    passes_replaced : StandsUnder rack a rest.label
         → Passes (state_of phase rack a rest V) (kept_state phase rack a b (replace_keeps a s j answer writes m b h) rest V)
     passes_replaced label =
         let keeps = replace_keeps a s j answer writes m b h in

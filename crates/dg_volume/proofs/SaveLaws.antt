@@ -8,7 +8,7 @@ use Rattle.std.proofs.lemmas.Bool.{cases_lt, false≢true}
 use Rattle.std.proofs.lemmas.List.{get_or_past, map-append, take_more}
 use Rattle.std.proofs.lemmas.List.FromFn.{get_or-map-range_with_len, length-map-range_with_len, map-range_with_len_more}
 use Rattle.dg_io.specs.declared.outside.Rack.{Ghosts}
-use Rattle.dg_label.specs.Labels.{AreSized, IsKeptOf, IsLabeled, IsOfArray, StandsLabeled, next_number}
+use Rattle.dg_label.specs.Labels.{AreSized, IsKeptOf, IsLabeled, IsOfBoundariesInUse, StandsLabeled, next_number}
 use Rattle.dg_label.specs.Seals.{AnswersSave, HasNoGood, KeepsArray, saved_label}
 use Rattle.dg_label.specs.declared.labels.KeptLabel.{KeptLabel}
 use Rattle.dg_label.specs.declared.saves.SaveAnswer.{SaveAnswer}
@@ -41,13 +41,13 @@ use Rattle.dg_store.specs.declared.store.Store.{Store}
 use Rattle.dg_volume.proofs.FaultLaws.{array_outs, array_tells}
 use Rattle.dg_volume.proofs.LabelLaws.{here_filling}
 use Rattle.dg_volume.proofs.UseLaws.{fits_table, least_on}
-use Rattle.dg_volume.proofs.VolumeLaws.{lost_on}
+use Rattle.dg_volume.proofs.VolumeLaws.{line_same, lost_on}
 use Rattle.dg_volume.specs.Origins.{Origin, WasHeld}
 use Rattle.dg_volume.specs.Copies.{StepsHot}
 use Rattle.dg_volume.specs.Numbers.{save_told}
 use Rattle.dg_volume.specs.Saves.{good_marks, save_reply, saved_by}
 use Rattle.dg_volume.specs.Settles as settles
-use Rattle.dg_volume.specs.Volumes.{FitsArray, IsInPlace, IsWell, Known, Leaves, StandsFor, StandsIn, cut_of, live_of, marks_of, reduced_of, shape_of, state_of, table_of}
+use Rattle.dg_volume.specs.Volumes.{FitsArray, IsInPlace, IsWell, Known, Leaves, StandsFor, StandsIn, StandsUnder, cut_of, line_of, live_of, marks_of, reduced_of, shape_of, state_of, table_of}
 use Rattle.dg_volume.specs.declared.phases.InPhase as phases
 use Rattle.dg_volume.specs.declared.volumes.Volume.{Volume}
 
@@ -162,13 +162,16 @@ module _ {S R : Type 0} (phase : phases.Ghosts S) (rack : Ghosts R) where
     shape : stores.shape_of store ≡ shape_of a
     shape = keeps.stays.shape
 
-    saved_well : IsWell phase rack a → IsLabeled rack store label → IsWell phase rack after
+    line : line_of after ≡ line_of a
+    line = line_same a after refl shape
+
+    saved_well : IsWell phase rack a → IsLabeled rack (line_of a) store label → IsWell phase rack after
     saved_well well labeled = record {
       array = keeps.sound;
       levels = well.levels ∙ sym (ap (λ (x : Shape). x.l) shape);
       marks = well.marks ∙ sym (ap (λ (x : Shape). x.n) shape);
       inferred = subst (λ (x : Shape). IfSome (phase.kept a.phase) (FitsArray x)) (sym shape) well.inferred;
-      labeled = labeled;
+      labeled = subst (λ (x : Shape). IsLabeled rack x store label) (sym line) labeled;
       in_use = fits_table a after refl keeps.table well.in_use;
       homes_are = subst (λ (x : Shape). AreHomes x a.homes) (sym shape) well.homes_are;
       few_homes = subst (λ (x : Shape). length a.homes ≤ x.n) (sym shape) well.few_homes;
@@ -181,10 +184,12 @@ module _ {S R : Type 0} (phase : phases.Ghosts S) (rack : Ghosts R) where
       settled = λ settled. subst (λ (t : Table). IsInPlace t (phase.kept a.phase) a.homes a.copies) (sym keeps.table) (well.settled settled);
     }
 
-    pub save_leaves : IsWell phase rack a → IsLabeled rack store label → Leaves phase phase rack a after
+    pub save_leaves : IsWell phase rack a → IsLabeled rack (line_of a) store label → Leaves phase phase rack a after
     save_leaves well labeled = record {
       well = saved_well well labeled;
       shape = shape;
+      boundaries = refl;
+      line = line;
       rise = keeps.stays.stays.rise;
       tells = keeps.stays.stays.tells;
       told_before = keeps.stays.stays.told_before;
@@ -207,11 +212,11 @@ module _ {S R : Type 0} (phase : phases.Ghosts S) (rack : Ghosts R) where
           out = array_outs rack a.store store keeps;
         }
 
-    still_stands : {P : Type 0} → (rest : State) (V : List (List ℕ)) (next : Option LastLabel) → StandsLabeled rack store label next → (Known P rack a → StandsFor phase rack a V)
+    still_stands : {P : Type 0} → (rest : State) (V : List (List ℕ)) (next : Option LastLabel) → StandsLabeled rack (line_of a) store label next → (Known P rack a → StandsFor phase rack a V)
         → StandsIn phase rack P after (record (state_of phase rack after rest V) { label = next })
     still_stands rest V next stands holds = record {
       is = refl;
-      label = stands;
+      label = subst (λ (x : Shape). StandsLabeled rack x store label next) (sym line) stands;
       holds = λ told. let had = holds (told_before told) in record { array = keeps.stands V had.array; inferred = had.inferred };
     }
 
@@ -253,7 +258,7 @@ module _ {S R : Type 0} (phase : phases.Ghosts S) (rack : Ghosts R) where
         (next : State) × StandsIn phase rack P after next × Step (Known P rack after) (state_of phase rack a rest V) Save reply next × (next.recent ≡ rest.recent)
 
     by_state : (hot : List ℕ) (reply : Reply)
-        → ((origin : Origin) (rest : State) (V : List (List ℕ)) → StandsLabeled rack a.store a.label rest.label
+        → ((origin : Origin) (rest : State) (V : List (List ℕ)) → StandsUnder rack a rest.label
         → (Known (WasHeld origin) rack a → StandsFor phase rack a V) → rest.recent ≡ hot → Goes (WasHeld origin) rest V reply)
         → StepsHot phase phase rack hot a Save reply after
     by_state hot reply goes origin state st recent =
@@ -261,10 +266,10 @@ module _ {S R : Type 0} (phase : phases.Ghosts S) (rack : Ghosts R) where
         (goes origin state state.blocks st.label st.holds recent)
 
     saves : (hot body : List ℕ) (sequence : ℕ) → IsSound rack a.store → body ≡ body_of 2 (saved_by phase a hot) → CanBeSaved (saved_by phase a hot)
-        → AnswersSave rack body a.store store a.label label (Saved sequence) → StepsHot phase phase rack hot a Save (SavedReply sequence) after
+        → AnswersSave rack (line_of a) body a.store store a.label label (Saved sequence) → StepsHot phase phase rack hot a Save (SavedReply sequence) after
     saves hot body sequence sound says can answer = by_state hot (SavedReply sequence) goes
       where
-        goes : (origin : Origin) (rest : State) (V : List (List ℕ)) → StandsLabeled rack a.store a.label rest.label → (Known (WasHeld origin) rack a → StandsFor phase rack a V) → rest.recent ≡ hot
+        goes : (origin : Origin) (rest : State) (V : List (List ℕ)) → StandsUnder rack a rest.label → (Known (WasHeld origin) rack a → StandsFor phase rack a V) → rest.recent ≡ hot
             → Goes (WasHeld origin) rest V (SavedReply sequence)
         goes origin rest V stands holds recent =
             let last : Option LastLabel = Some (saved_label store sequence body) in
@@ -307,8 +312,8 @@ module _ {S R : Type 0} (phase : phases.Ghosts S) (rack : Ghosts R) where
 
     -- ---- no member is good
 
-    forgets : (last : Option LastLabel) → StandsLabeled rack a.store a.label last → label ≡ a.label → HasNoGood store → StandsLabeled rack store label (option_map forgotten last)
-    forgets last stands same none = subst (λ (k : Option KeptLabel). StandsLabeled rack store k (option_map forgotten last)) (sym same) (record {
+    forgets : (last : Option LastLabel) → StandsUnder rack a last → label ≡ a.label → HasNoGood store → StandsLabeled rack (line_of a) store label (option_map forgotten last)
+    forgets last stands same none = subst (λ (k : Option KeptLabel). StandsLabeled rack (line_of a) store k (option_map forgotten last)) (sym same) (record {
       kept = kept_of last a.label stands.kept;
       holds = held last;
       sizes = sized last;
@@ -327,13 +332,15 @@ module _ {S R : Type 0} (phase : phases.Ghosts S) (rack : Ghosts R) where
         held None = tt
         held (Some l) = record { label = λ q keeps. absurd (false≢true keeps); body = λ q keeps sealed. absurd (false≢true keeps) }
 
-        sized : (last : Option LastLabel) → IfSome (option_map forgotten last) (AreSized rack store)
+        sized : (last : Option LastLabel) → IfSome (option_map forgotten last) (λ l. l.shape ≡ line_of a → AreSized rack store l)
         sized None = tt
-        sized (Some l) = λ q keeps. absurd (false≢true keeps)
+        sized (Some l) = λ named q keeps. absurd (false≢true keeps)
 
-        of_last : (last : Option LastLabel) → IfSome last (IsOfArray (shape_of a)) → IfSome (option_map forgotten last) (IsOfArray (stores.shape_of store))
-        of_last None is = tt
-        of_last (Some l) is = record { shape_is = is.shape_is ∙ sym shape; numbers_are = is.numbers_are }
+        of_last : (last : Option LastLabel) → IfSome last (IsOfBoundariesInUse (line_of a) (shape_of a)) → IfSome (option_map forgotten last) (IsOfBoundariesInUse (line_of a) (stores.shape_of store))
+        of_last None of = tt
+        of_last (Some l) of = λ why.
+            let is = of (elim why [ inl sealed ↦ inl sealed | inr same ↦ inr (sym shape ∙ same) ]) in
+            record { shape_is = is.shape_is ∙ sym shape; numbers_are = is.numbers_are }
 
         lacks : (last : Option LastLabel) (q : ℕ) → has_label (option_map forgotten last) q ≡ false
         lacks None q = refl
@@ -343,11 +350,11 @@ module _ {S R : Type 0} (phase : phases.Ghosts S) (rack : Ghosts R) where
         out_each : (q : ℕ) → stores.members_of store q ≢ Out → ⊥
         out_each q here = false≢true (sym (none (partner_of q)) ∙ keeps.sound.paired q (here_filling (stores.members_of store q) here (none q)))
 
-    saves_none : (hot body : List ℕ) (s : ℕ) → FitsReduced (table_of a) (reduced_of a) → AnswersSave rack body a.store store a.label label (Lost s)
+    saves_none : (hot body : List ℕ) (s : ℕ) → FitsReduced (table_of a) (reduced_of a) → AnswersSave rack (line_of a) body a.store store a.label label (Lost s)
         → StepsHot phase phase rack hot a Save (LostReply (boundary_at (live_of a) s)) after
     saves_none hot body s fits answer = by_state hot (LostReply (boundary_at (live_of a) s)) goes
       where
-        goes : (origin : Origin) (rest : State) (V : List (List ℕ)) → StandsLabeled rack a.store a.label rest.label → (Known (WasHeld origin) rack a → StandsFor phase rack a V) → rest.recent ≡ hot
+        goes : (origin : Origin) (rest : State) (V : List (List ℕ)) → StandsUnder rack a rest.label → (Known (WasHeld origin) rack a → StandsFor phase rack a V) → rest.recent ≡ hot
             → Goes (WasHeld origin) rest V (LostReply (boundary_at (live_of a) s))
         goes origin rest V stands holds recent =
             let last : Option LastLabel = option_map forgotten rest.label in (
@@ -378,7 +385,7 @@ module _ {S R : Type 0} (phase : phases.Ghosts S) (rack : Ghosts R) where
             )
 
     pub save_steps : (hot body : List ℕ) (answer : SaveAnswer) → IsWell phase rack a → body ≡ body_of 2 (saved_by phase a hot) → CanBeSaved (saved_by phase a hot)
-        → AnswersSave rack body a.store store a.label label answer → StepsHot phase phase rack hot a Save (save_reply (save_told (live_of a) answer)) after
+        → AnswersSave rack (line_of a) body a.store store a.label label answer → StepsHot phase phase rack hot a Save (save_reply (save_told (live_of a) answer)) after
     save_steps hot body (Saved sequence) well says can answer = saves hot body sequence well.array says can answer
     save_steps hot body (Lost s) well says can answer = saves_none hot body s well.in_use answer
 

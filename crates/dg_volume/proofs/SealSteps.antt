@@ -10,7 +10,7 @@ use Rattle.dg_hot.specs.Spreads.{HasSpread, HasSpreadSome, Moved, spread_of}
 use Rattle.dg_hot.specs.declared.spreads.DiffuseAnswer.{DiffuseAnswer}
 use Rattle.dg_hot.specs.declared.spreads.DiffuseAnswer.TheVariants.{Diffused, Lost as DiffuseLost}
 use Rattle.dg_io.specs.declared.outside.Rack.{Ghosts}
-use Rattle.dg_label.specs.Labels.{IsLabeled, is_sealed}
+use Rattle.dg_label.specs.Labels.{is_sealed}
 use Rattle.dg_label.specs.Seals.{HasGood, KeepsArray, OpensSeal}
 use Rattle.dg_label.specs.declared.labels.KeptLabel.{KeptLabel}
 use Rattle.dg_model.proofs.MemberLaws.{falls_both, falls_same}
@@ -23,6 +23,7 @@ use Rattle.dg_model.specs.States.{has_lost}
 use Rattle.dg_model.specs.Tables.{Table, sites_in}
 use Rattle.dg_model.specs.declared.homes.Home.{Home}
 use Rattle.dg_model.specs.declared.members.MemberState.{MemberState}
+use Rattle.dg_model.specs.declared.shapes.Shape.{Shape}
 use Rattle.dg_model.specs.declared.wants.Want.{Want}
 use Rattle.dg_move.specs.Answers.{MovesTo}
 use Rattle.dg_move.specs.Stores.{MovesOn, rounds_in}
@@ -86,8 +87,8 @@ module _ {R : Type 0} (rack : Ghosts R) where
   pub where_opened : (a m : Store R) (before after : Option KeptLabel) → OpensSeal rack a m before after → OpensWhere rack true a m before after
   where_opened a m before after h = record { array = h.array; labeled = h.labeled; opens = λ is. h; quiet = λ is. absurd (false≢true (sym is)) }
 
-  pub where_none : (a : Store R) (label : Option KeptLabel) → IsSound rack a → IsLabeled rack a label → OpensWhere rack false a a label label
-  where_none a label sound labeled = record { array = keeps_none a sound; labeled = labeled; opens = λ is. absurd (false≢true is); quiet = λ is. (refl, refl) }
+  pub where_none : (a : Store R) (label : Option KeptLabel) → IsSound rack a → OpensWhere rack false a a label label
+  where_none a label sound = record { array = keeps_none a sound; labeled = λ line labeled. labeled; opens = λ is. absurd (false≢true is); quiet = λ is. (refl, refl) }
 
   good_in : (a : Store R) → IsSound rack a → has_lost (shape_of a) (members_of a) ≡ false → HasGood a
   good_in a sound whole = let shape = sound.table.shape in let some = shape.least_boundaries in good_whole rack a (omega (arith, some)) whole
@@ -151,15 +152,15 @@ module _ {R : Type 0} (rack : Ghosts R) where
       (subst (λ (t : Table). CallsAtMost rack m c (2 * max 1 (length (sites_in t b)))) opening.array.table most)
 
   -- of an opening that was made in each case
-  pub labels_behind : (a m c : Store R) (before after : Option KeptLabel) → IsSound rack a → has_lost (shape_of a) (members_of a) ≡ false → OpensSeal rack a m before after → Leaves rack m c
-      → Relabels rack a c before after
-  labels_behind a m c before after sound whole opening left =
+  pub labels_behind : (line : Shape) (a m c : Store R) (before after : Option KeptLabel) → IsSound rack a → has_lost (shape_of a) (members_of a) ≡ false → OpensSeal rack a m before after → Leaves rack m c
+      → Relabels rack line a c before after
+  labels_behind line a m c before after sound whole opening left =
       let good = good_in a sound whole in
-      relabels_then rack a m c before after (relabels_opened rack a m before after good opening) (slots_kept rack a m c left.keeps)
-      (λ closed. absurd (false≢true (sym closed ∙ opened_opens rack a m before after good opening)))
+      relabels_then rack line a m c before after (relabels_opened rack line a m before after good opening) (slots_kept rack a m c left.keeps)
+      (λ closed. absurd (false≢true (sym closed ∙ opened_opens rack line a m before after good opening)))
 
-  pub labels_opened : (a m : Store R) (before after : Option KeptLabel) → IsSound rack a → has_lost (shape_of a) (members_of a) ≡ false → OpensSeal rack a m before after → Relabels rack a m before after
-  labels_opened a m before after sound whole opening = relabels_opened rack a m before after (good_in a sound whole) opening
+  pub labels_opened : (line : Shape) (a m : Store R) (before after : Option KeptLabel) → IsSound rack a → has_lost (shape_of a) (members_of a) ≡ false → OpensSeal rack a m before after → Relabels rack line a m before after
+  labels_opened line a m before after sound whole opening = relabels_opened rack line a m before after (good_in a sound whole) opening
 
   -- ---- moves
 
@@ -173,18 +174,18 @@ module _ {R : Type 0} (rack : Ghosts R) where
   same_written a m first = subst (λ (t : Table). SameWritten (table_of a) t) (sym first.table) (λ b. refl)
 
   -- the label where moves were behind an opening, which was made where something was copied
-  pub labels_moved : (targets : ℕ → ℕ → Bool) (limit : ℕ) (writes : Bool) (a m c : Store R) (before after : Option KeptLabel) → IsSound rack a → IsLabeled rack a before
+  pub labels_moved : (line : Shape) (targets : ℕ → ℕ → Bool) (limit : ℕ) (writes : Bool) (a m c : Store R) (before after : Option KeptLabel) → IsSound rack a
       → has_lost (shape_of a) (members_of a) ≡ false → OpensWhere rack writes a m before after → (writes ≡ false → rounds_in targets limit (table_of m) ≡ 0)
-      → Leaves rack m c → (rounds_in targets limit (table_of m) ≡ 0 → rack_of c ≡ rack_of m) → Relabels rack a c before after
-  labels_moved targets limit writes a m c before after sound labeled whole opening none left still =
-      let first = relabels_where rack writes a m before after labeled (λ is. good_in a sound whole) opening in
-      relabels_then rack a m c before after first.0 (slots_kept rack a m c left.keeps)
+      → Leaves rack m c → (rounds_in targets limit (table_of m) ≡ 0 → rack_of c ≡ rack_of m) → Relabels rack line a c before after
+  labels_moved line targets limit writes a m c before after sound whole opening none left still =
+      let first = relabels_where rack line writes a m before after (λ is. good_in a sound whole) opening in
+      relabels_then rack line a m c before after first.0 (slots_kept rack a m c left.keeps)
       (λ closed. ap (λ (r : R). (rack.counts r).writes) (still (none (sym first.1 ∙ closed))))
 
-  pub labels_lost : (writes : Bool) (a m : Store R) (before after : Option KeptLabel) → IsSound rack a → IsLabeled rack a before → has_lost (shape_of a) (members_of a) ≡ false
-      → OpensWhere rack writes a m before after → Relabels rack a m before after
-  labels_lost writes a m before after sound labeled whole opening =
-      let first = relabels_where rack writes a m before after labeled (λ is. good_in a sound whole) opening in first.0
+  pub labels_lost : (line : Shape) (writes : Bool) (a m : Store R) (before after : Option KeptLabel) → IsSound rack a → has_lost (shape_of a) (members_of a) ≡ false
+      → OpensWhere rack writes a m before after → Relabels rack line a m before after
+  labels_lost line writes a m before after sound whole opening =
+      let first = relabels_where rack line writes a m before after (λ is. good_in a sound whole) opening in first.0
 
   pub ends_behind : {E : Type 0} (targets : ℕ → ℕ → Bool) (limit : ℕ) (a m c : Store R) (result : Result TendAnswer E) → KeepsArray rack a m
       → IfOk result (λ answer. MovesTo targets limit (table_of m) (table_of c) (members_of c) answer) → IfOk result (λ answer. EndsMoves targets limit (table_of a) (table_of c) (members_of c) answer)
@@ -249,11 +250,11 @@ module _ {R : Type 0} (rack : Ghosts R) where
   -- ---- the opening before a refill
 
   -- no member is refilled: nothing was done
-  pub opens_none : (a : Store R) (label : Option KeptLabel) (s limit : ℕ) → IsSound rack a → IsLabeled rack a label → HasNoFilling (members_of a) s
-      → OpensRefill rack s limit a a label label None
-  opens_none a label s limit sound labeled none = record {
+  pub opens_none : (line : Shape) (a : Store R) (label : Option KeptLabel) (s limit : ℕ) → IsSound rack a → HasNoFilling (members_of a) s
+      → OpensRefill rack line s limit a a label label None
+  opens_none line a label s limit sound none = record {
     array = keeps_none a sound;
-    labels = relabels_none rack a label labeled;
+    labels = relabels_none rack line a label;
     quiet = λ closed. inr none;
     same = λ ended still. (refl, refl);
     was = tt;
@@ -272,10 +273,10 @@ module _ {R : Type 0} (rack : Ghosts R) where
   good_filling a s sound was = (partner_of was.q, sound.paired was.q (ap is_filling was.refilled.1))
 
   -- one is refilled, behind the opening too
-  pub opens_filling : (a m : Store R) (before after : Option KeptLabel) (s limit : ℕ) → IsSound rack a → IsLabeled rack a before → HasFilling (members_of a) s
-      → OpensWhere rack (nat_lt 0 limit) a m before after → HasFilling (members_of m) s → OpensRefill rack s limit a m before after None
-  opens_filling a m before after s limit sound labeled was opening still =
-      let first = relabels_where rack (nat_lt 0 limit) a m before after labeled (λ is. good_filling a s sound was) opening in
+  pub opens_filling : (line : Shape) (a m : Store R) (before after : Option KeptLabel) (s limit : ℕ) → IsSound rack a → HasFilling (members_of a) s
+      → OpensWhere rack (nat_lt 0 limit) a m before after → HasFilling (members_of m) s → OpensRefill rack line s limit a m before after None
+  opens_filling line a m before after s limit sound was opening still =
+      let first = relabels_where rack line (nat_lt 0 limit) a m before after (λ is. good_filling a s sound was) opening in
       record {
         array = opening.array;
         labels = first.0;
@@ -288,12 +289,12 @@ module _ {R : Type 0} (rack : Ghosts R) where
       }
 
   -- one was refilled, and isn't behind it
-  pub opens_gone : (a m : Store R) (before after : Option KeptLabel) (s limit : ℕ) (answer : RebuildAnswer) → IsSound rack a → IsLabeled rack a before
+  pub opens_gone : (line : Shape) (a m : Store R) (before after : Option KeptLabel) (s limit : ℕ) (answer : RebuildAnswer) → IsSound rack a
       → HasFilling (members_of a) s → OpensWhere rack (nat_lt 0 limit) a m before after → HasNoFilling (members_of m) s
       → (is_lost (members_of m) s ≡ true → answer ≡ RebuildLost s) → (is_lost (members_of m) s ≡ false → answer ≡ RebuildFailed)
-      → OpensRefill rack s limit a m before after (Some answer)
-  opens_gone a m before after s limit answer sound labeled was opening gone lost fell =
-      let first = relabels_where rack (nat_lt 0 limit) a m before after labeled (λ is. good_filling a s sound was) opening in
+      → OpensRefill rack line s limit a m before after (Some answer)
+  opens_gone line a m before after s limit answer sound was opening gone lost fell =
+      let first = relabels_where rack line (nat_lt 0 limit) a m before after (λ is. good_filling a s sound was) opening in
       record {
         array = opening.array;
         labels = first.0;

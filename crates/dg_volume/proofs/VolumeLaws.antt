@@ -1,7 +1,6 @@
 -- What calls that keep all of a volume but its array leave of it.
 use Rattle.std.proofs.Common.{◌≡◌, ◌∙◌, ◌<◌, ◌≤◌, ◌/◌, ℕ, Bool, true, List, length, refl, sym, ap, subst}
 use Rattle.std.specs.Prelude.{IfSome, Option}
-use Rattle.dg_infer.specs.Meanings.{KeptInference}
 use Rattle.dg_infer.specs.Meanings as inferences
 use Rattle.dg_io.specs.Told.{StillTold}
 use Rattle.dg_io.specs.declared.outside.Rack.{Ghosts}
@@ -31,7 +30,8 @@ use Rattle.dg_volume.proofs.UseLaws.{fits_table}
 use Rattle.dg_volume.specs.Origins.{Origin, WasHeld}
 use Rattle.dg_volume.specs.Faults.{OutsStay, TellsFaults}
 use Rattle.dg_volume.specs.Seals.{Relabels}
-use Rattle.dg_volume.specs.Volumes.{FitsArray, IsInPlace, IsWell, Known, Leaves, StandsFor, StandsIn, StepsBy, StepsTo, marks_by, marks_of, members_of, rack_of, shape_of, state_of, table_of}
+use Rattle.dg_volume.specs.Volumes.{FitsArray, HasLabel, IsInPlace, IsWell, Known, Leaves, StandsFor, StandsIn, StandsUnder, StepsBy, StepsTo, line_of, marks_by, marks_of, members_of, rack_of, shape_of, state_of, table_of}
+use Rattle.dg_volume.specs.declared.in_use.InUse.{InUse}
 use Rattle.dg_volume.specs.declared.phases.InPhase as phases
 use Rattle.dg_volume.specs.declared.volumes.Volume.{Volume}
 
@@ -48,12 +48,26 @@ on_label a b opens rest = record rest { label = label_after opens (members_of a)
 
 -- what calls left of the label of a volume
 abbrev pub Labels : {S T R : Type 0} → Ghosts R → Volume S R → Volume T R → Type 0
-Labels rack a b = Relabels rack a.store b.store a.label b.label
+Labels rack a b = Relabels rack (line_of a) a.store b.store a.label b.label
 
 -- the label that they left is one that a step leaves
-pub label_by : {S T R : Type 0} (rack : Ghosts R) (a : Volume S R) (b : Volume T R) (h : Labels rack a b) (last : Option LastLabel) → StandsLabeled rack a.store a.label last
+pub label_by : {S T R : Type 0} (rack : Ghosts R) (a : Volume S R) (b : Volume T R) (h : Labels rack a b) (last : Option LastLabel) → StandsUnder rack a last
     → KeepsLabel (rack.counts (rack_of a)).writes (rack.counts (rack_of b)).writes (members_of a) (members_of b) last (label_after h.opens (members_of a) (members_of b) last)
-label_by rack a b h last stands = keeps_label rack a.store b.store a.label b.label h last stands.kept
+label_by rack a b h last stands = keeps_label rack (line_of a) a.store b.store a.label b.label h last stands.kept
+
+-- members are as long by the same numbers
+pub line_same : {S T R : Type 0} (a : Volume S R) (b : Volume T R) → b.in_use.long ≡ a.in_use.long → shape_of b ≡ shape_of a → line_of b ≡ line_of a
+line_same a b same shape i = record (shape i) { b = same i }
+
+-- the label that they left fits the array
+pub labeled_by : {S T R : Type 0} (rack : Ghosts R) (a : Volume S R) (b : Volume T R) → line_of b ≡ line_of a → Labels rack a b → HasLabel rack a → HasLabel rack b
+labeled_by rack a b line labels labeled = subst (λ (x : Shape). IsLabeled rack x b.store b.label) (sym line) (labels.labeled labeled)
+
+-- and stands on the members that keep it
+pub under_by : {S T R : Type 0} (rack : Ghosts R) (a : Volume S R) (b : Volume T R) → line_of b ≡ line_of a → (labels : Labels rack a b) → HasLabel rack a → (last : Option LastLabel)
+    → StandsUnder rack a last → StandsUnder rack b (label_after labels.opens (members_of a) (members_of b) last)
+under_by rack a b line labels labeled last stands =
+    subst (λ (x : Shape). StandsLabeled rack x b.store b.label (label_after labels.opens (members_of a) (members_of b) last)) (sym line) (labels.stands last labeled stands)
 
 module _ {S R : Type 0} (phase : phases.Ghosts S) (rack : Ghosts R) where
   -- all but the array, the label and the buffers is as it was
@@ -67,6 +81,7 @@ module _ {S R : Type 0} (phase : phases.Ghosts S) (rack : Ghosts R) where
   -- what any such call keeps of the array
   pub record Keeps (a b : Volume S R) : Type 0 where
     pub beside : IsBeside a b
+    pub labeled : HasLabel rack a
     pub levels : b.levels.fragment ≡ a.levels.fragment
     pub sound : IsSound rack b.store
     pub table : table_of b ≡ table_of a
@@ -82,6 +97,10 @@ module _ {S R : Type 0} (phase : phases.Ghosts S) (rack : Ghosts R) where
 
   pub shape_kept : (a b : Volume S R) → Keeps a b → shape_of b ≡ shape_of a
   shape_kept a b keeps = ap (λ (t : Table). t.shape) keeps.table
+
+  -- so are the numbers by which members are as long
+  pub line_kept : (a b : Volume S R) → Keeps a b → line_of b ≡ line_of a
+  line_kept a b keeps = line_same a b (ap (λ (u : InUse). u.long) keeps.beside.in_use) (shape_kept a b keeps)
 
   marks_kept : (a b : Volume S R) → IsBeside a b → marks_of phase b ≡ marks_of phase a
   marks_kept a b beside = λ i. marks_by (phase.kept (beside.phase_is i)) ((beside.pending i).items)
@@ -105,7 +124,7 @@ module _ {S R : Type 0} (phase : phases.Ghosts S) (rack : Ghosts R) where
         levels = keeps.levels ∙ well.levels ∙ sym (ap (λ (x : Shape). x.l) shape);
         marks = ap length (marks_kept a b keeps.beside) ∙ well.marks ∙ sym (ap (λ (x : Shape). x.n) shape);
         inferred = subst (λ (p : S). IfSome (phase.kept p) (FitsArray (shape_of b))) (sym keeps.beside.phase_is) fits;
-        labeled = keeps.labels.labeled;
+        labeled = labeled_by rack a b (line_same a b (ap (λ (u : InUse). u.long) keeps.beside.in_use) shape) keeps.labels keeps.labeled;
         in_use = fits_table a b keeps.beside.in_use keeps.table well.in_use;
         homes_are = subst (λ (x : List Home). AreHomes (shape_of b) x) (sym keeps.beside.homes) homes;
         few_homes =
@@ -120,13 +139,15 @@ module _ {S R : Type 0} (phase : phases.Ghosts S) (rack : Ghosts R) where
       }
 
   pub leaves : (a b : Volume S R) → IsWell phase rack a → Keeps a b → Leaves phase phase rack a b
-  leaves a b well keeps = record { well = well_on a b well keeps; shape = shape_kept a b keeps; rise = keeps.rise; tells = keeps.tells; told_before = keeps.told_before; own = keeps.own; same_rack = keeps.same_rack }
+  leaves a b well keeps = record { well = well_on a b well keeps; shape = shape_kept a b keeps; boundaries = ap (λ (u : InUse). u.boundaries) keeps.beside.in_use; line = line_kept a b keeps; rise = keeps.rise; tells = keeps.tells; told_before = keeps.told_before; own = keeps.own; same_rack = keeps.same_rack }
 
   -- no call was made
   pub leaves_none : (a : Volume S R) → IsWell phase rack a → Leaves phase phase rack a a
   leaves_none a well = record {
     well = well;
     shape = refl;
+    boundaries = refl;
+    line = refl;
     rise = (rack_none rack (rack_of a)).rise;
     tells = λ q told. told;
     told_before = λ q told. told;
@@ -143,11 +164,11 @@ module _ {S R : Type 0} (phase : phases.Ghosts S) (rack : Ghosts R) where
 
   -- the same of all such states
   abbrev pub StepsFrom : Volume S R → Event → Reply → Volume S R → Type 0
-  StepsFrom a event reply b = (origin : Origin) (rest : State) (V : List (List ℕ)) → StandsLabeled rack a.store a.label rest.label
+  StepsFrom a event reply b = (origin : Origin) (rest : State) (V : List (List ℕ)) → StandsUnder rack a rest.label
       → (Known (WasHeld origin) rack a → StandsFor phase rack a V) → StepsAt (WasHeld origin) (λ recent. recent) a rest V event reply b
 
   pub steps_by : (touch : List ℕ → List ℕ) (a b : Volume S R) (event : Event) (reply : Reply)
-      → ((origin : Origin) (rest : State) (V : List (List ℕ)) → StandsLabeled rack a.store a.label rest.label
+      → ((origin : Origin) (rest : State) (V : List (List ℕ)) → StandsUnder rack a rest.label
       → (Known (WasHeld origin) rack a → StandsFor phase rack a V) → StepsAt (WasHeld origin) touch a rest V event reply b)
       → StepsBy phase phase rack touch a event reply b
   steps_by touch a b event reply h origin state st =
@@ -171,33 +192,34 @@ module _ {S R : Type 0} (phase : phases.Ghosts S) (rack : Ghosts R) where
   abbrev pub kept_state : (a b : Volume S R) → Keeps a b → State → List (List ℕ) → State
   kept_state a b keeps rest V = state_of phase rack b (on_label a b keeps.labels.opens rest) V
 
-  pub still_in : {P : Type 0} → (a b : Volume S R) (rest : State) (V : List (List ℕ)) → StandsLabeled rack a.store a.label rest.label → (keeps : Keeps a b)
+  pub still_in : {P : Type 0} → (a b : Volume S R) (rest : State) (V : List (List ℕ)) → StandsUnder rack a rest.label → (keeps : Keeps a b)
       → (Known P rack a → StandsFor phase rack a V) → StandsIn phase rack P b (kept_state a b keeps rest V)
   still_in a b rest V label keeps holds = record {
     is = refl;
-    label = keeps.labels.stands rest.label label;
+    label = under_by rack a b (line_kept a b keeps) keeps.labels keeps.labeled rest.label label;
     holds = λ told. holds_on a b V keeps (holds (told_before a b keeps told));
   }
 
   -- nothing was done: it is in the state that it was in
-  pub same_in : {P : Type 0} → (a : Volume S R) (rest : State) (V : List (List ℕ)) → StandsLabeled rack a.store a.label rest.label → (Known P rack a → StandsFor phase rack a V)
+  pub same_in : {P : Type 0} → (a : Volume S R) (rest : State) (V : List (List ℕ)) → StandsUnder rack a rest.label → (Known P rack a → StandsFor phase rack a V)
       → StandsIn phase rack P a (state_of phase rack a rest V)
   same_in a rest V label holds = record { is = refl; label = label; holds = holds }
 
   -- no call was made on its rack: it is in the state with the same label
-  pub quiet_in : {P : Type 0} → (a b : Volume S R) (rest : State) (V : List (List ℕ)) → StandsLabeled rack a.store a.label rest.label → Keeps a b → rack_of b ≡ rack_of a → b.label ≡ a.label
+  pub quiet_in : {P : Type 0} → (a b : Volume S R) (rest : State) (V : List (List ℕ)) → StandsUnder rack a rest.label → Keeps a b → rack_of b ≡ rack_of a → b.label ≡ a.label
       → ((q : ℕ) → members_of a q ≡ Out → members_of b q ≡ Out) → ((q : ℕ) → is_filling (members_of b q) ≡ true → is_filling (members_of a q) ≡ true)
       → (Known P rack a → StandsFor phase rack a V) → StandsIn phase rack P b (state_of phase rack b rest V)
   quiet_in a b rest V label keeps same label_is outs fills holds = record {
     is = refl;
     label =
-        subst (λ (k : Option KeptLabel). StandsLabeled rack b.store k rest.label) (sym label_is)
-        (stands_same rack a.store b.store a.label rest.label (shape_kept a b keeps) same outs fills label);
+        subst (λ (k : Option KeptLabel). StandsLabeled rack (line_of b) b.store k rest.label) (sym label_is)
+        (subst (λ (x : Shape). StandsLabeled rack x b.store a.label rest.label) (sym (line_kept a b keeps))
+        (stands_same rack (line_of a) a.store b.store a.label rest.label (shape_kept a b keeps) same outs fills label));
     holds = λ told. holds_on a b V keeps (holds (told_before a b keeps told));
   }
 
   -- and it stays in it where its members fall
-  pub stays : (a b : Volume S R) (rest : State) (V : List (List ℕ)) → StandsLabeled rack a.store a.label rest.label → (keeps : Keeps a b)
+  pub stays : (a b : Volume S R) (rest : State) (V : List (List ℕ)) → StandsUnder rack a rest.label → (keeps : Keeps a b)
       → CountsRise (rack.counts (rack_of a)) (rack.counts (rack_of b))
       → MembersFall (rack.counts (rack_of a)).faults (rack.counts (rack_of b)).faults (members_of a) (members_of b) → OutsStay rack a.store b.store
       → Stays (state_of phase rack a rest V) (kept_state a b keeps rest V)
@@ -231,12 +253,13 @@ module _ {S R : Type 0} (phase : phases.Ghosts S) (rack : Ghosts R) where
     pub sound : IsSound rack b.store
     pub reads : ReadsOn rack a.store b.store
     pub stands : KeepsBlocks rack a.store b.store
-    pub labeled : IsLabeled rack a.store a.label
+    pub labeled : HasLabel rack a
     pub label_is : b.label ≡ a.label
 
   pub read_keeps : (a b : Volume S R) → HasRead a b → Keeps a b
   read_keeps a b h = record {
     beside = h.beside;
+    labeled = h.labeled;
     levels = h.levels;
     sound = h.sound;
     table = h.reads.table;
@@ -248,8 +271,8 @@ module _ {S R : Type 0} (phase : phases.Ghosts S) (rack : Ghosts R) where
     back = λ q. good_was (rack.counts (rack_of a)).faults (rack.counts (rack_of b)).faults (members_of a) (members_of b) q h.reads.keeps.falls;
     stands = h.stands;
     labels =
-        subst (λ (k : Option KeptLabel). Relabels rack a.store b.store a.label k) (sym h.label_is)
-        (relabels_read rack a.store b.store a.label h.labeled h.reads);
+        subst (λ (k : Option KeptLabel). Relabels rack (line_of a) a.store b.store a.label k) (sym h.label_is)
+        (relabels_read rack (line_of a) a.store b.store a.label h.reads);
     faults = keeps_tells rack a.store b.store h.reads.keeps;
   }
 
@@ -257,11 +280,11 @@ module _ {S R : Type 0} (phase : phases.Ghosts S) (rack : Ghosts R) where
   abbrev pub read_state : (a b : Volume S R) → HasRead a b → State → List (List ℕ) → State
   read_state a b h rest V = kept_state a b (read_keeps a b h) rest V
 
-  pub reads_stay : (a b : Volume S R) (rest : State) (V : List (List ℕ)) → StandsLabeled rack a.store a.label rest.label → (h : HasRead a b)
+  pub reads_stay : (a b : Volume S R) (rest : State) (V : List (List ℕ)) → StandsUnder rack a rest.label → (h : HasRead a b)
       → Stays (state_of phase rack a rest V) (read_state a b h rest V)
   reads_stay a b rest V label h = stays a b rest V label (read_keeps a b h) h.reads.keeps.stays.rise h.reads.keeps.falls (keeps_outs rack a.store b.store h.reads.keeps)
 
-  pub reads_in : {P : Type 0} → (a b : Volume S R) (rest : State) (V : List (List ℕ)) → StandsLabeled rack a.store a.label rest.label → (h : HasRead a b)
+  pub reads_in : {P : Type 0} → (a b : Volume S R) (rest : State) (V : List (List ℕ)) → StandsUnder rack a rest.label → (h : HasRead a b)
       → (Known P rack a → StandsFor phase rack a V) → StandsIn phase rack P b (read_state a b h rest V)
   reads_in a b rest V label h holds = still_in a b rest V label (read_keeps a b h) holds
 

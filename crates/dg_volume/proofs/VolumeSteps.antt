@@ -4,7 +4,6 @@ use Rattle.std.specs.Prelude.{◌||◌, [], Option}
 use Rattle.std.proofs.lemmas.Bool.{cases_eq, false≢true, or_left, or_right}
 use Rattle.dg_io.specs.Told.{StillTold}
 use Rattle.dg_io.specs.declared.outside.Rack.{Ghosts}
-use Rattle.dg_label.specs.Labels.{IsLabeled}
 use Rattle.dg_label.specs.declared.labels.KeptLabel.{KeptLabel}
 use Rattle.dg_model.proofs.MemberLaws.{struck_good_was}
 use Rattle.dg_model.proofs.TrimLaws.{trimmed_written, zeros_padded}
@@ -29,7 +28,7 @@ use Rattle.dg_volume.proofs.LabelLaws.{none_opens, quiet_opens, relabels_none, r
 use Rattle.dg_volume.proofs.UseLaws.{HasPlace, IsUnused, own_member, unused_out}
 use Rattle.dg_volume.proofs.VolumeLaws.{HasRead, IsBeside, Keeps, Labels, kept_state, leaves, quiet_in, read_keeps, read_state, reads_in, reads_stay, same_in, steps_from, still_in, told_before}
 use Rattle.dg_volume.specs.Seals.{Relabels}
-use Rattle.dg_volume.specs.Volumes.{IsWell, Leaves, StepsTo, cut_of, marks_by, members_of, rack_of, shape_of, state_of, table_of}
+use Rattle.dg_volume.specs.Volumes.{HasLabel, IsWell, Leaves, StepsTo, cut_of, line_of, marks_by, members_of, rack_of, shape_of, state_of, table_of}
 use Rattle.dg_volume.specs.declared.phases.InPhase as phases
 use Rattle.dg_volume.specs.declared.volumes.Volume.{Volume}
 
@@ -71,7 +70,7 @@ module _ {S R : Type 0} (phase : phases.Ghosts S) (rack : Ghosts R) where
   -- ---- reads
 
   -- no call was made
-  read_none : (a : Volume S R) → IsWell phase rack a → HasRead phase rack a a
+  pub read_none : (a : Volume S R) → IsWell phase rack a → HasRead phase rack a a
   read_none a well = record {
     beside = record { phase_is = refl; pending = refl; homes = refl; copies = refl; in_use = refl };
     levels = refl;
@@ -153,7 +152,7 @@ module _ {S R : Type 0} (phase : phases.Ghosts S) (rack : Ghosts R) where
     pub sound : IsSound rack b.store
     pub rack_is : rack_of b ≡ rack_of a
     pub label_is : b.label ≡ a.label
-    pub labeled : IsLabeled rack a.store a.label
+    pub labeled : HasLabel rack a
     pub table : table_of b ≡ table_of a
     pub struck : IsStruck (2 * s + j) (members_of a) (members_of b)
     pub stands : KeepsBlocks rack a.store b.store
@@ -167,15 +166,16 @@ module _ {S R : Type 0} (phase : phases.Ghosts S) (rack : Ghosts R) where
       let shape : shape_of b ≡ shape_of a = ap (λ (t : Table). t.shape) h.table in
       let outs = struck_out (2 * s + j) (members_of a) (members_of b) h.struck in
       let fills = struck_fills (2 * s + j) (members_of a) (members_of b) h.struck in
-      let none = relabels_none rack a.store a.label h.labeled in
-      subst (λ (k : Option KeptLabel). (labels : Relabels rack a.store b.store a.label k) × (labels.opens ≡ false)) (sym h.label_is) (
-        relabels_quiet rack a.store a.store b.store a.label a.label none shape h.rack_is (λ q was good. was) outs fills,
-        quiet_opens rack a.store a.store b.store a.label a.label none shape h.rack_is (λ q was good. was) outs fills ∙ none_opens rack a.store a.label h.labeled,
+      let none = relabels_none rack (line_of a) a.store a.label in
+      subst (λ (k : Option KeptLabel). (labels : Relabels rack (line_of a) a.store b.store a.label k) × (labels.opens ≡ false)) (sym h.label_is) (
+        relabels_quiet rack (line_of a) a.store a.store b.store a.label a.label none shape h.rack_is (λ q was good. was) outs fills,
+        quiet_opens rack (line_of a) a.store a.store b.store a.label a.label none shape h.rack_is (λ q was good. was) outs fills ∙ none_opens rack (line_of a) a.store a.label,
       )
 
   abbrev fail_keeps : (a : Volume S R) (s j : ℕ) (b : Volume S R) → HasFailed a s j b → Keeps phase rack a b
   fail_keeps a s j b h = record {
     beside = h.beside;
+    labeled = h.labeled;
     levels = h.levels;
     sound = h.sound;
     table = h.table;

@@ -9,7 +9,7 @@ use Rattle.dg_infer.specs.Meanings.{KeptInference}
 use Rattle.dg_infer.specs.Meanings as inferences
 use Rattle.dg_io.specs.Told.{StillTold}
 use Rattle.dg_io.specs.declared.outside.Rack.{Ghosts}
-use Rattle.dg_label.specs.Labels.{IsKeptOf, IsLabeled, StandsLabeled}
+use Rattle.dg_label.specs.Labels.{IsKeptOf}
 use Rattle.dg_label.specs.declared.labels.KeptLabel.{KeptLabel}
 use Rattle.dg_model.proofs.MemberLaws.{NoneRecovers, falls_both, good_was, has_lost_at, none_back}
 use Rattle.dg_model.specs.Blocks.{padded}
@@ -46,11 +46,11 @@ use Rattle.dg_volume.proofs.FaultLaws.{falls_out, keeps_outs, keeps_tells, outs_
 use Rattle.dg_volume.proofs.LabelLaws.{relabels_none, relabels_then, slots_kept}
 use Rattle.dg_volume.proofs.MoveSteps.{loose_not_settled, loose_not_worn}
 use Rattle.dg_volume.proofs.PlaceLaws.{fits_written}
-use Rattle.dg_volume.proofs.VolumeLaws.{IsBeside, Keeps, Labels, kept_state, label_by, leaves, lost_on, on_label, same_in, stays, steps_from, still_in}
+use Rattle.dg_volume.proofs.VolumeLaws.{IsBeside, Keeps, Labels, kept_state, label_by, labeled_by, leaves, line_same, lost_on, on_label, same_in, stays, steps_from, still_in, under_by}
 use Rattle.dg_volume.specs.Origins.{WasHeld}
 use Rattle.dg_volume.specs.Faults.{OutsStay, TellsFaults}
 use Rattle.dg_volume.specs.Seals.{FallsOn, HasStoredBlock, Relabels, opening_calls}
-use Rattle.dg_volume.specs.Volumes.{FitsArray, IsWell, Known, Leaves, StandsFor, StandsIn, Tells, cut_of, given_of, marks_by, marks_of, members_of, rack_of, reduced_of, shape_of, state_of, table_of}
+use Rattle.dg_volume.specs.Volumes.{FitsArray, HasLabel, IsWell, Known, Leaves, StandsFor, StandsIn, StandsUnder, Tells, cut_of, given_of, line_of, marks_by, marks_of, members_of, rack_of, reduced_of, shape_of, state_of, table_of}
 use Rattle.dg_volume.specs.Writes.{IsFollowed, RereadsFew, WritesTo}
 use Rattle.dg_volume.specs.declared.phases.InPhase as phases
 use Rattle.dg_volume.specs.declared.volumes.Volume.{Volume}
@@ -120,8 +120,9 @@ refused_under last kept is now was members own few = let same = opening_is last 
 -- ---- the label
 
 -- a write was followed by reads
-pub labels_followed : {R : Type 0} (rack : Ghosts R) (a m c : Store R) (before after : Option KeptLabel) → Relabels rack a m before after → ReadsOn rack m c → Relabels rack a c before after
-labels_followed rack a m c before after first reads = relabels_then rack a m c before after first (slots_kept rack a m c reads.keeps) (λ closed. reads.writes)
+pub labels_followed : {R : Type 0} (rack : Ghosts R) (line : Shape) (a m c : Store R) (before after : Option KeptLabel) → Relabels rack line a m before after → ReadsOn rack m c
+    → Relabels rack line a c before after
+labels_followed rack line a m c before after first reads = relabels_then rack line a m c before after first (slots_kept rack a m c reads.keeps) (λ closed. reads.writes)
 
 -- ---- phases
 
@@ -161,6 +162,7 @@ reread_few rack Known J l n old new V W b blocks l_is n_is along reads were coun
 -- block b is cut no more, and the same boundaries are in use
 pub record Uncuts {S T R : Type 0} (a : Volume S R) (b : ℕ) (c : Volume T R) : Type 0 where
   pub boundaries : c.in_use.boundaries ≡ a.in_use.boundaries
+  pub long : c.in_use.long ≡ a.in_use.long
   pub live : c.in_use.live ≡ a.in_use.live
   pub cut : cut_of c ≡ slice_set (cut_of a) b false
 
@@ -185,11 +187,13 @@ module _ {S T R : Type 0} (from : phases.Ghosts S) (to : phases.Ghosts T) (rack 
     pub own : CallsBelow rack (shape_of a).b (rack_of a) (rack_of c)
     pub same_rack : rack.name (rack_of c) ≡ rack.name (rack_of a)
     pub levels : c.levels.fragment ≡ a.levels.fragment
+    pub boundaries : c.in_use.boundaries ≡ a.in_use.boundaries
+    pub line : line_of c ≡ line_of a
     pub homes : c.homes ≡ a.homes
     pub copies : AreHomes (shape_of a) c.copies
     pub marks : length (marks_of to c) ≡ length (marks_of from a)
     pub fits : IfSome (to.kept c.phase) (FitsArray (shape_of a))
-    pub labeled : IsLabeled rack c.store c.label
+    pub labeled : HasLabel rack c
     pub in_use : FitsReduced (table_of c) (reduced_of c)
     pub uncopied : c.copies ≡ []
     pub worn : to.phase c.phase ≡ WornPhase → has_lost (shape_of c) (members_of c) ≡ true
@@ -212,6 +216,8 @@ module _ {S T R : Type 0} (from : phases.Ghosts S) (to : phases.Ghosts T) (rack 
       settled = λ settled. absurd (h.settled settled);
     };
     shape = h.shape;
+    boundaries = h.boundaries;
+    line = h.line;
     rise = h.rise;
     tells = h.tells;
     told_before = h.told_before;
@@ -250,6 +256,7 @@ module _ {S T R : Type 0} (from : phases.Ghosts S) (to : phases.Ghosts T) (rack 
     pub homes : c.homes ≡ a.homes
     pub copies : c.copies ≡ []
     pub boundaries : c.in_use.boundaries ≡ a.in_use.boundaries
+    pub long : c.in_use.long ≡ a.in_use.long
     pub live : c.in_use.live ≡ a.in_use.live
     pub cut : cut_of c ≡ slice_set (cut_of a) b false
     pub phase_is : to.phase c.phase ≡ phase_after (has_lost (shape_of c) (members_of c))
@@ -257,7 +264,11 @@ module _ {S T R : Type 0} (from : phases.Ghosts S) (to : phases.Ghosts T) (rack 
     pub inferred : (V : List (List ℕ)) → IsOver a c V → IfSome (to.kept c.phase) (λ kept. inferences.StandsFor kept (slice_set V b block))
     pub marks : (V : List (List ℕ)) → AreNext (has_lost (shape_of c) (members_of c)) (IsOver a c V) (shape_of a).l (shape_of a).n (slice_set V b block) (with_mark (marks_of from a) b) (marks_of to c)
     pub few : (V : List (List ℕ)) → CallsFew a b c V (slice_set V b block)
+    pub labeled : HasLabel rack a
     pub labels : Labels rack a c
+
+  line_written : (a : Volume S R) (b : ℕ) (block : List ℕ) (m : Store R) (c : Volume T R) → HasWritten a b block m c → line_of c ≡ line_of a
+  line_written a b block m c h = line_same a c h.long (h.array.reads.keeps.shape ∙ h.array.first.stays.shape)
 
   falls_on : (a : Volume S R) (b : ℕ) (block : List ℕ) (m new : Store R) → HasStored a b block m new
       → MembersFall (rack.counts (rack_of a)).faults (rack.counts (stores.rack_of new)).faults (members_of a) (stores.members_of new)
@@ -302,7 +313,7 @@ module _ {S T R : Type 0} (from : phases.Ghosts S) (to : phases.Ghosts T) (rack 
   written_in_use : (a : Volume S R) (b : ℕ) (block : List ℕ) (m : Store R) (c : Volume T R) → IsWell from rack a → HasWritten a b block m c → FitsReduced (table_of c) (reduced_of c)
   written_in_use a b block m c well h =
       uncut_in_use a c b (shape_on a b block m c.store h.array) h.array.within
-      (subst (λ (t : Table). IsSited (table_of a) b t) (sym h.array.reads.table) h.array.stored.sited) (record { boundaries = h.boundaries; live = h.live; cut = h.cut }) well.in_use
+      (subst (λ (t : Table). IsSited (table_of a) b t) (sym h.array.reads.table) h.array.stored.sited) (record { boundaries = h.boundaries; long = h.long; live = h.live; cut = h.cut }) well.in_use
 
   pub written_leaves : (a : Volume S R) (b : ℕ) (block : List ℕ) (m : Store R) (c : Volume T R) → IsWell from rack a → HasWritten a b block m c → Leaves from to rack a c
   written_leaves a b block m c well h =
@@ -315,12 +326,14 @@ module _ {S T R : Type 0} (from : phases.Ghosts S) (to : phases.Ghosts T) (rack 
         told_before = λ q told. h.array.first.stays.stays.told_before q (h.array.reads.keeps.stays.told_before q told);
         own = own_then rack a.store m c.store h.array.first.stays.shape h.array.first.stays.own h.array.reads.keeps.own;
         same_rack = h.array.reads.keeps.stays.same_rack ∙ h.array.first.stays.stays.same_rack;
+        boundaries = h.boundaries;
+        line = line_written a b block m c h;
         levels = h.levels;
         homes = h.homes;
         copies = subst (λ (x : List Home). AreHomes (shape_of a) x) (sym h.copies) (no_homes (shape_of a));
         marks = next_size lost (IsOver a c []) (shape_of a).l (shape_of a).n (slice_set [] b block) (with_mark (marks_of from a) b) (marks_of to c) (h.marks []) ∙ length-set (marks_of from a) b true;
         fits = h.fits;
-        labeled = h.labels.labeled;
+        labeled = labeled_by rack a c (line_written a b block m c h) h.labels well.labeled;
         in_use = written_in_use a b block m c well h;
         uncopied = h.copies;
         worn = after_worn lost (to.phase c.phase) h.phase_is;
@@ -331,7 +344,7 @@ module _ {S T R : Type 0} (from : phases.Ghosts S) (to : phases.Ghosts T) (rack 
   abbrev written_state : (a : Volume S R) (b : ℕ) (block : List ℕ) (m : Store R) (c : Volume T R) → HasWritten a b block m c → State → List (List ℕ) → State
   written_state a b block m c h rest W = state_of to rack c (on_label a c h.labels.opens rest) W
 
-  writes_few : {P : Type 0} → (a : Volume S R) (b : ℕ) (block : List ℕ) (m : Store R) (c : Volume T R) (rest : State) (V : List (List ℕ)) → StandsLabeled rack a.store a.label rest.label → (h : HasWritten a b block m c)
+  writes_few : {P : Type 0} → (a : Volume S R) (b : ℕ) (block : List ℕ) (m : Store R) (c : Volume T R) (rest : State) (V : List (List ℕ)) → StandsUnder rack a rest.label → (h : HasWritten a b block m c)
       → (Known P rack a → StandsFor from rack a V) → WritesFew (Known P rack c) (state_of from rack a rest V) b (written_state a b block m c h rest (slice_set V b block))
   writes_few {P = p} a b block m c rest V label h holds =
       let over : Known p rack c → IsOver a c V = λ told. record { tells = told.0; held = holds (told_first a b block m c.store h.array told) } in
@@ -350,17 +363,17 @@ module _ {S T R : Type 0} (from : phases.Ghosts S) (to : phases.Ghosts T) (rack 
             (2 * max 1 (length (sites_in (table_of a) b))) (count_read few.rereads) (few.most none);
       }
 
-  stands_after : {P : Type 0} → (a : Volume S R) (b : ℕ) (block : List ℕ) (m : Store R) (c : Volume T R) (rest : State) (V : List (List ℕ)) → StandsLabeled rack a.store a.label rest.label → (h : HasWritten a b block m c)
+  stands_after : {P : Type 0} → (a : Volume S R) (b : ℕ) (block : List ℕ) (m : Store R) (c : Volume T R) (rest : State) (V : List (List ℕ)) → StandsUnder rack a rest.label → (h : HasWritten a b block m c)
       → (Known P rack a → StandsFor from rack a V) → StandsIn to rack P c (written_state a b block m c h rest (slice_set V b block))
   stands_after a b block m c rest V label h holds = record {
     is = refl;
-    label = h.labels.stands rest.label label;
+    label = under_by rack a c (line_written a b block m c h) h.labels h.labeled rest.label label;
     holds = λ told.
         let held = holds (told_first a b block m c.store h.array told) in
         record { array = h.array.stands (slice_set V b block) (h.array.stored.sets V held.array); inferred = h.inferred V (record { tells = told.0; held = held }) };
   }
 
-  written_step : {P : Type 0} → (a : Volume S R) (b : ℕ) (bytes : List ℕ) (m : Store R) (c : Volume T R) (rest : State) (V : List (List ℕ)) → StandsLabeled rack a.store a.label rest.label
+  written_step : {P : Type 0} → (a : Volume S R) (b : ℕ) (bytes : List ℕ) (m : Store R) (c : Volume T R) (rest : State) (V : List (List ℕ)) → StandsUnder rack a rest.label
       → (h : HasWritten a b (padded (shape_of a).l bytes) m c) → (Known P rack a → StandsFor from rack a V)
       → Step (Known P rack c) (state_of from rack a rest V) (Write b bytes) Done (written_state a b (padded (shape_of a).l bytes) m c h rest (slice_set V b (padded (shape_of a).l bytes)))
   written_step {P = p} a b bytes m c rest V label h holds =
@@ -448,8 +461,10 @@ module _ {S T R : Type 0} (from : phases.Ghosts S) (to : phases.Ghosts T) (rack 
         homes = homes;
         copies = copies;
         boundaries = uncuts.boundaries;
+        long = uncuts.long;
         live = uncuts.live;
         cut = uncuts.cut;
+        labeled = well.labeled;
         labels = labels;
         phase_is = loose ∙ sym (ap phase_after h.whole);
         fits = subst (λ (o : Option KeptInference). IfSome o (FitsArray (shape_of a))) (sym has) (record { bytes = h.size.0 ∙ fitted.bytes; number = h.size.1 ∙ fitted.number });
@@ -488,8 +503,10 @@ module _ {S T R : Type 0} (from : phases.Ghosts S) (to : phases.Ghosts T) (rack 
   written_broken a b block m kept c well array levels homes copies uncuts had has worn marks lost labels = record {
     array = array;
     boundaries = uncuts.boundaries;
+    long = uncuts.long;
     live = uncuts.live;
     cut = uncuts.cut;
+    labeled = well.labeled;
     labels = labels;
     levels = levels;
     homes = homes;
@@ -511,10 +528,10 @@ module _ {S T R : Type 0} (from : phases.Ghosts S) (to : phases.Ghosts T) (rack 
 
 module _ {S T R : Type 0} (from : phases.Ghosts S) (to : phases.Ghosts T) (rack : Ghosts R) where
   -- a loose volume is left
-  pub loosened_leaves : (a : Volume S R) (m : Store R) (kept now : KeptInference) (c : Volume T R) → IsWell from rack a → FitsReduced (table_of c) (reduced_of c) → FallsOn rack a.store m → IsSound rack c.store → ReadsOn rack m c.store
+  pub loosened_leaves : (a : Volume S R) (m : Store R) (kept now : KeptInference) (c : Volume T R) → IsWell from rack a → FitsReduced (table_of c) (reduced_of c) → c.in_use.boundaries ≡ a.in_use.boundaries → c.in_use.long ≡ a.in_use.long → FallsOn rack a.store m → IsSound rack c.store → ReadsOn rack m c.store
       → c.levels.fragment ≡ a.levels.fragment → c.homes ≡ a.homes → c.copies ≡ [] → from.kept a.phase ≡ Some kept → to.kept c.phase ≡ Some now → to.phase c.phase ≡ LoosePhase
       → (now.l ≡ kept.l) × (now.n ≡ kept.n) → length now.pending ≡ length kept.pending → Labels rack a c → Leaves from to rack a c
-  loosened_leaves a m kept now c well in_use first sound reads levels homes copies had has loose size room labels =
+  loosened_leaves a m kept now c well in_use bounds same first sound reads levels homes copies had has loose size room labels =
       let fitted : FitsArray (shape_of a) kept = subst (λ (o : Option KeptInference). IfSome o (FitsArray (shape_of a))) had well.inferred in
       left_leaves from to rack a c well (record {
         sound = sound;
@@ -524,6 +541,8 @@ module _ {S T R : Type 0} (from : phases.Ghosts S) (to : phases.Ghosts T) (rack 
         told_before = λ q told. first.stays.stays.told_before q (reads.keeps.stays.told_before q told);
         own = own_then rack a.store m c.store first.stays.shape first.stays.own reads.keeps.own;
         same_rack = reads.keeps.stays.same_rack ∙ first.stays.stays.same_rack;
+        boundaries = bounds;
+        line = line_same a c same (reads.keeps.shape ∙ first.stays.shape);
         levels = levels;
         homes = homes;
         copies = subst (λ (x : List Home). AreHomes (shape_of a) x) (sym copies) (no_homes (shape_of a));
@@ -531,7 +550,7 @@ module _ {S T R : Type 0} (from : phases.Ghosts S) (to : phases.Ghosts T) (rack 
             ap (λ (o : Option KeptInference). length (marks_by o c.pending.items)) has ∙ room
             ∙ sym (ap (λ (o : Option KeptInference). length (marks_by o a.pending.items)) had);
         fits = subst (λ (o : Option KeptInference). IfSome o (FitsArray (shape_of a))) (sym has) (record { bytes = size.0 ∙ fitted.bytes; number = size.1 ∙ fitted.number });
-        labeled = labels.labeled;
+        labeled = labeled_by rack a c (line_same a c same (reads.keeps.shape ∙ first.stays.shape)) labels well.labeled;
         in_use = in_use;
         uncopied = copies;
         worn = λ worn. absurd (loose_not_worn (sym loose ∙ worn));
@@ -541,9 +560,10 @@ module _ {S T R : Type 0} (from : phases.Ghosts S) (to : phases.Ghosts T) (rack 
 -- ---- writes that are refused
 
 module _ {S R : Type 0} (phase : phases.Ghosts S) (rack : Ghosts R) where
-  unmoved : (a : Volume S R) → IsSound rack a.store → IsLabeled rack a.store a.label → Keeps phase rack a a
+  unmoved : (a : Volume S R) → IsSound rack a.store → HasLabel rack a → Keeps phase rack a a
   unmoved a sound labeled = record {
     beside = record { phase_is = refl; pending = refl; homes = refl; copies = refl; in_use = refl };
+    labeled = labeled;
     levels = refl;
     sound = sound;
     table = refl;
@@ -554,7 +574,7 @@ module _ {S R : Type 0} (phase : phases.Ghosts S) (rack : Ghosts R) where
     same_rack = refl;
     back = λ q good. good;
     stands = λ V stands. stands;
-    labels = relabels_none rack a.store a.label labeled;
+    labels = relabels_none rack (line_of a) a.store a.label;
     faults = tells_same rack a.store a.store refl;
   }
 
@@ -596,9 +616,10 @@ module _ {S R : Type 0} (phase : phases.Ghosts S) (rack : Ghosts R) where
     pub levels : c.levels.fragment ≡ a.levels.fragment
     pub labels : Labels rack a c
 
-  missed_keeps : (a : Volume S R) (b : ℕ) (c : Volume S R) → HasMissed a b c → Keeps phase rack a c
-  missed_keeps a b c h = record {
+  missed_keeps : (a : Volume S R) (b : ℕ) (c : Volume S R) → IsWell phase rack a → HasMissed a b c → Keeps phase rack a c
+  missed_keeps a b c well h = record {
     beside = h.beside;
+    labeled = well.labeled;
     levels = h.levels;
     sound = h.first.sound;
     table = h.lost.table;
@@ -615,18 +636,18 @@ module _ {S R : Type 0} (phase : phases.Ghosts S) (rack : Ghosts R) where
 
   pub lost_now : (a : Volume S R) (b : ℕ) (block : List ℕ) (c : Volume S R) → IsWell phase rack a → given_of c ≡ given_of a → HasMissed a b c → WritesTo phase phase rack a b block Degraded c
   lost_now a b block c well given h = record {
-    leaves = leaves phase rack a c well (missed_keeps a b c h);
+    leaves = leaves phase rack a c well (missed_keeps a b c well h);
     given_is = given;
     steps = λ bytes is. steps_from phase rack a c (Write b bytes) Degraded (λ origin rest V label holds. (
-      kept_state phase rack a c (missed_keeps a b c h) rest V,
-      still_in phase rack a c rest V label (missed_keeps a b c h) holds,
+      kept_state phase rack a c (missed_keeps a b c well h) rest V,
+      still_in phase rack a c rest V label (missed_keeps a b c well h) holds,
       (
         h.within,
         inr (
           h.whole,
           h.lost.lost,
           refused_under rest.label a.label label.kept (rack.counts (rack_of c)).calls (rack.counts (rack_of a)).calls (2 * (shape_of a).b) (2 * max 1 (length (sites_in (table_of a) b))) h.most,
-          stays phase rack a c rest V label (missed_keeps a b c h) h.first.stays.stays.rise h.first.falls h.first.outs,
+          stays phase rack a c rest V label (missed_keeps a b c well h) h.first.stays.stays.rise h.first.falls h.first.outs,
         ),
       ),
       refl,

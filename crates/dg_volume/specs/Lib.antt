@@ -4,12 +4,14 @@ pub mod CutReads
 pub mod Faults
 pub mod Fronts
 pub mod HeldLaws
+pub mod Left
 pub mod Numbers
 pub mod Opens
 pub mod Origins
 pub mod Phases
 pub mod Planned
 pub mod Refills
+pub mod Regroups
 pub mod Replies
 pub mod Saves
 pub mod Seals

@@ -99,6 +99,7 @@ pub record IsMadeOf {R : Type 0} (rack : Ghosts R) (reopened : Reopened R) (volu
   pub homes : volume.homes ≡ reopened.saved.homes
   pub copies : volume.copies ≡ copies_after (phase_in volume.phase) reopened.saved.copies
   pub boundaries : volume.in_use.boundaries ≡ (shape_of volume).b
+  pub long : volume.in_use.long ≡ (shape_of volume).b
   pub live : live_of volume ≡ all_live (shape_of volume).b
   pub cut : cut_of volume ≡ replicate (shape_of volume).n false
   pub label : volume.label ≡ Some reopened.label

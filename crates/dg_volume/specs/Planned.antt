@@ -4,7 +4,6 @@ use Rattle.dg_infer.specs.Meanings.{KeptInference}
 use Rattle.dg_infer.specs.Meanings as inferences
 use Rattle.dg_infer.specs.Wants.{IsWantBy}
 use Rattle.dg_io.specs.declared.outside.Rack.{Ghosts}
-use Rattle.dg_label.specs.Labels.{StandsLabeled}
 use Rattle.dg_model.specs.Members.{MembersFall}
 use Rattle.dg_model.specs.Plans.{plan}
 use Rattle.dg_model.specs.Seals.{LastLabel}
@@ -29,7 +28,7 @@ use Rattle.dg_store.specs.Views.{ReadsOn}
 use Rattle.dg_store.specs.declared.store.Store.{Store}
 use Rattle.dg_volume.specs.Faults.{OutsStay, TellsFaults}
 use Rattle.dg_volume.specs.Origins.{Origin, WasHeld}
-use Rattle.dg_volume.specs.Volumes.{AreWantsBy, IsInPlace, Known, StandsFor, Tells, state_of}
+use Rattle.dg_volume.specs.Volumes.{AreWantsBy, IsInPlace, Known, StandsFor, StandsUnder, Tells, state_of}
 use Rattle.dg_volume.specs.Volumes as volumes
 use Rattle.dg_volume.specs.declared.phases.InPhase as phases
 use Rattle.dg_volume.specs.declared.plans.PlanAnswer.{PlanAnswer}
@@ -125,7 +124,7 @@ pub record IsPutInPlace {S R : Type 0} (phase : phases.Ghosts S) (rack : Ghosts 
   pub pending_is : new.pending ≡ old.pending
   pub placed : IsInPlace (volumes.table_of new) (phase.kept old.phase) new.homes new.copies
   pub stands : (V : List (List ℕ)) → Tells rack new → StandsFor phase rack old V → StandsFor phase rack new V
-  pub steps : (origin : Origin) (rest : State) (V : List (List ℕ)) → StandsLabeled rack old.store old.label rest.label → (Known (WasHeld origin) rack old → StandsFor phase rack old V)
-      → (last : Option LastLabel) × StandsLabeled rack new.store new.label last
+  pub steps : (origin : Origin) (rest : State) (V : List (List ℕ)) → StandsUnder rack old rest.label → (Known (WasHeld origin) rack old → StandsFor phase rack old V)
+      → (last : Option LastLabel) × StandsUnder rack new last
       × Step (Known (WasHeld origin) rack new) (state_of phase rack old rest V) Settle SettledReply
       (record (state_of phase rack new rest V) { phase = SettledPhase; label = last })

@@ -12,6 +12,7 @@ use Rattle.dg_model.specs.Marks.{IsDead, is_marked}
 use Rattle.dg_model.specs.Members.{IsRefilled, is_lost}
 use Rattle.dg_model.specs.States.{has_lost}
 use Rattle.dg_model.specs.Tables.{Table}
+use Rattle.dg_model.specs.declared.shapes.Shape.{Shape}
 use Rattle.dg_model.specs.declared.members.MemberState.{MemberState}
 use Rattle.dg_model.specs.declared.phases.Phase.{Phase}
 use Rattle.dg_model.specs.declared.phases.Phase.TheVariants.{Worn}
@@ -79,9 +80,9 @@ pub record HasFilling (members : ℕ → MemberState) (s : ℕ) : Type 0 where
 
 -- What the opening of the seal before a refill left, and what the refill answers where its member went out by that: there is an answer just
 -- then.
-pub record OpensRefill {R : Type 0} (rack : Ghosts R) (s limit : ℕ) (old new : Store R) (before after : Option KeptLabel) (ended : Option RebuildAnswer) : Type 0 where
+pub record OpensRefill {R : Type 0} (rack : Ghosts R) (line : Shape) (s limit : ℕ) (old new : Store R) (before after : Option KeptLabel) (ended : Option RebuildAnswer) : Type 0 where
   pub array : KeepsArray rack old new
-  pub labels : Relabels rack old new before after
+  pub labels : Relabels rack line old new before after
   pub quiet : labels.opens ≡ false → (limit ≡ 0) ⊎ HasNoFilling (members_of new) s
   pub same : ended ≡ None → HasNoFilling (members_of new) s → (new ≡ old) × (after ≡ before)
   pub was : IfSome ended (λ answer. HasFilling (members_of old) s)

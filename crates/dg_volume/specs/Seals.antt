@@ -10,6 +10,7 @@ use Rattle.dg_model.specs.Seals.{LastLabel, label_after}
 use Rattle.dg_model.specs.Sites.{IsSited, all_lost}
 use Rattle.dg_model.specs.Tables.{Table, sites_in}
 use Rattle.dg_model.specs.declared.members.MemberState.{MemberState}
+use Rattle.dg_model.specs.declared.shapes.Shape.{Shape}
 use Rattle.dg_move.specs.Answers.{IsTended}
 use Rattle.dg_move.specs.declared.tends.TendAnswer.{TendAnswer}
 use Rattle.dg_move.specs.declared.tends.TendAnswer.TheVariants.{Lost, Tended}
@@ -18,20 +19,20 @@ use Rattle.dg_store.specs.Stores.{IsSound, SetsBlock, members_of, rack_of, table
 use Rattle.dg_store.specs.declared.store.Store.{Store}
 use Rattle.dg_volume.specs.Faults.{OutsStay, TellsFaults}
 
--- What calls left of the label: where an array stood with a label it stands with that of the next state, opened or not. A sealed one was
--- opened where a call that writes was made, and else none was made.
-pub record Relabels {R : Type 0} (rack : Ghosts R) (old new : Store R) (before after : Option KeptLabel) : Type 0 where
-  pub labeled : IsLabeled rack new after
+-- What calls left of the label, where members are as long by the numbers of the line: where the array stood with a label it stands with that of the
+-- next state, opened or not. A sealed one was opened where a call that writes was made, and else none was made.
+pub record Relabels {R : Type 0} (rack : Ghosts R) (line : Shape) (old new : Store R) (before after : Option KeptLabel) : Type 0 where
+  pub labeled : IsLabeled rack line old before → IsLabeled rack line new after
   pub opens : Bool
-  pub stands : (last : Option LastLabel) → StandsLabeled rack old before last
-      → StandsLabeled rack new after (label_after opens (members_of old) (members_of new) last)
+  pub stands : (last : Option LastLabel) → IsLabeled rack line old before → StandsLabeled rack line old before last
+      → StandsLabeled rack line new after (label_after opens (members_of old) (members_of new) last)
   pub wrote : is_sealed before ≡ true → opens ≡ true → HasWritten rack old new
   pub stood : is_sealed before ≡ true → opens ≡ false → (rack.counts (rack_of new)).writes ≡ (rack.counts (rack_of old)).writes
 
 -- The seal was opened where members are to be written; else nothing was done.
 pub record OpensWhere {R : Type 0} (rack : Ghosts R) (writes : Bool) (old new : Store R) (before after : Option KeptLabel) : Type 0 where
   pub array : KeepsArray rack old new
-  pub labeled : IsLabeled rack new after
+  pub labeled : (line : Shape) → IsLabeled rack line old before → IsLabeled rack line new after
   pub opens : writes ≡ true → OpensSeal rack old new before after
   pub quiet : writes ≡ false → (new ≡ old) × (after ≡ before)
 

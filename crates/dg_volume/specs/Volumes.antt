@@ -8,6 +8,7 @@ use Rattle.dg_io.specs.Told.{StillTold}
 use Rattle.dg_label.specs.Labels.{IsLabeled, StandsLabeled}
 use Rattle.dg_model.specs.Openings.{FitsReduced, Reduced}
 use Rattle.dg_model.specs.Saves.{AreHomes}
+use Rattle.dg_model.specs.Seals.{LastLabel}
 use Rattle.dg_model.specs.States.{CountsRise, IsBlank, State, has_lost}
 use Rattle.dg_model.specs.Placed.{IsPlaced}
 use Rattle.dg_model.specs.Steps.{Step, recent_after}
@@ -51,6 +52,18 @@ members_of volume = stores.members_of volume.store
 -- the rack that it holds
 abbrev pub rack_of : {S R : Type 0} → Volume S R → R
 rack_of volume = stores.rack_of volume.store
+
+-- the numbers by which members are as long: its own, with as many boundaries as were in use when the array was made or opened
+abbrev pub line_of : {S R : Type 0} → Volume S R → Shape
+line_of volume = record (shape_of volume) { b = volume.in_use.long }
+
+-- what it keeps of the last label fits its array
+abbrev pub HasLabel : {S R : Type 0} → Ghosts R → Volume S R → Type 0
+HasLabel rack volume = IsLabeled rack (line_of volume) volume.store volume.label
+
+-- that label is this one of the model, and stands on the members that keep it
+abbrev pub StandsUnder : {S R : Type 0} → Ghosts R → Volume S R → Option LastLabel → Type 0
+StandsUnder rack volume last = StandsLabeled rack (line_of volume) volume.store volume.label last
 
 -- the boundaries of its first line, those in use, and the cut blocks
 abbrev pub reduced_in : InUse → Reduced
@@ -118,7 +131,7 @@ Known P rack volume = Tells rack volume × P
 -- its bytes, and where something else is so, it stands for the blocks of the state.
 pub record StandsIn {S R : Type 0} (phase : phases.Ghosts S) (rack : Ghosts R) (P : Type 0) (volume : Volume S R) (state : State) : Type 0 where
   pub is : state ≡ state_of phase rack volume state state.blocks
-  pub label : StandsLabeled rack volume.store volume.label state.label
+  pub label : StandsUnder rack volume state.label
   pub holds : Known P rack volume → StandsFor phase rack volume state.blocks
 
 -- Whichever state the volume was in, it made a step from it, to a state that it is in now, in which so changed inodes were read last. That the
@@ -169,7 +182,7 @@ pub record IsWell {S R : Type 0} (phase : phases.Ghosts S) (rack : Ghosts R) (vo
   pub levels : volume.levels.fragment ≡ (shape_of volume).l
   pub marks : length (marks_of phase volume) ≡ (shape_of volume).n
   pub inferred : IfSome (phase.kept volume.phase) (FitsArray (shape_of volume))
-  pub labeled : IsLabeled rack volume.store volume.label
+  pub labeled : HasLabel rack volume
   pub in_use : FitsReduced (table_of volume) (reduced_of volume)
   pub homes_are : AreHomes (shape_of volume) volume.homes
   pub few_homes : length volume.homes ≤ (shape_of volume).n
@@ -178,11 +191,13 @@ pub record IsWell {S R : Type 0} (phase : phases.Ghosts S) (rack : Ghosts R) (vo
   pub worn : phase.phase volume.phase ≡ WornPhase → has_lost (shape_of volume) (members_of volume) ≡ true
   pub settled : phase.phase volume.phase ≡ SettledPhase → IsInPlace (table_of volume) (phase.kept volume.phase) volume.homes volume.copies
 
--- What any call leaves: a volume of the same array with which all is well, over the same rack, of which no count fell, what that tells it told
--- before, and calls were made on members of the array alone.
+-- What any call leaves: a volume of the same array with which all is well, of the same first line, whose members are as long, over the same rack, of
+-- which no count fell, what that tells it told before, and calls were made on members of the array alone.
 pub record Leaves {S T R : Type 0} (from : phases.Ghosts S) (to : phases.Ghosts T) (rack : Ghosts R) (old : Volume S R) (new : Volume T R) : Type 0 where
   pub well : IsWell to rack new
   pub shape : shape_of new ≡ shape_of old
+  pub boundaries : new.in_use.boundaries ≡ old.in_use.boundaries
+  pub line : line_of new ≡ line_of old
   pub rise : CountsRise (rack.counts (rack_of old)) (rack.counts (rack_of new))
   pub tells : StillTold (rack.bytes (rack_of old)) (rack.bytes (rack_of new))
   pub told_before : (q : ℕ) → rack.tells (rack_of new) q → rack.tells (rack_of old) q

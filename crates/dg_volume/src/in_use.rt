@@ -13,6 +13,8 @@ use std::alloc::Global;
 pub(crate) struct InUse {
     /// Boundaries of the first line.
     pub(crate) boundaries: u8,
+    /// Boundaries of the array by whose numbers members are as long: those that were in use when it was made or opened.
+    pub(crate) long: u8,
     /// The numbers of those in use, ascending.
     pub(crate) live: Vec<u8>,
     /// A mark for each block: whether it was cut.
@@ -36,6 +38,7 @@ impl InUse {
     /// All boundaries of an array, and no cut block.
     pub(crate) fn all(alloc: Global, shape: &Shape) -> Result<InUse, NoMemory>
         ensures boundaries { IfOk result (λ all. all.boundaries ≡ shape.now.b) }
+        ensures long { IfOk result (λ all. all.long ≡ shape.now.b) }
         ensures live { IfOk result (λ all. all.live.items ≡ all_live shape.now.b) }
         ensures cut { IfOk result (λ all. all.cut.items ≡ replicate shape.now.n false) }
     {
@@ -43,6 +46,7 @@ impl InUse {
         match vec![in alloc; false; shape.n as usize] {
             Ok(cut) => Ok(InUse {
                 boundaries: shape.b,
+                long: shape.b,
                 live,
                 cut,
             }),
@@ -95,10 +99,21 @@ impl InUse {
         }
     }
 
+    /// The numbers by which members are as long, of an array with these.
+    pub(crate) fn line(&self, shape: &Shape) -> Shape
+        ensures { result ≡ record shape.now { b = self.now.long } }
+    {
+        Shape {
+            b: self.long,
+            ..*shape
+        }
+    }
+
     /// A block was written, and counts as cut no more.
     pub(crate) fn uncut(&mut self, block: u32)
         requires { block < length self.old.cut.items }
         ensures boundaries { self.new.boundaries ≡ self.old.boundaries }
+        ensures long { self.new.long ≡ self.old.long }
         ensures live { self.new.live ≡ self.old.live }
         ensures cut { self.new.cut.items ≡ slice_set self.old.cut.items block false }
     {

@@ -1,6 +1,6 @@
 // Members that are replaced and refilled.
 ghost use Rattle.std.specs.Prelude.{◌≡◌, ◌≢◌, ◌⊎◌, ◌+◌, ◌*◌, ◌<◌, ℕ, IfOk, IfSome, false, true, length, List};
-ghost use Rattle.dg_label.specs.Labels.{IsLabeled};
+ghost use Rattle.dg_label.specs.Labels.{HasOwnSeal};
 ghost use Rattle.dg_model.specs.Marks.{is_marked};
 ghost use Rattle.dg_model.specs.Members.{is_lost};
 ghost use Rattle.dg_model.specs.declared.events.Event.{Event};
@@ -193,9 +193,9 @@ fn open_refill<R: Rack>(
     limit: u32,
 ) -> Option<RebuildAnswer>
     requires sound { IsSound R.Rack store.old }
-    requires labeled { IsLabeled R.Rack store.old label.old }
+    requires seal { HasOwnSeal (stores.shape_of store.old) label.old }
     requires boundary { boundary < (stores.shape_of store.old).b }
-    ensures { OpensRefill R.Rack boundary limit store.old store.new label.old label.new result }
+    ensures { (line : Shape) → OpensRefill R.Rack line boundary limit store.old store.new label.old label.new result }
 {
     if !is_filling(store, boundary) {
         return None;
@@ -223,7 +223,8 @@ impl<S: InPhase, R: Rack> Volume<S, R> {
         };
         let opens = can_replace(&self.store, place, side as u8);
         open_where(&mut self.store, &mut self.label, opens);
-        let size = member_length(self.store.shape());
+        let line = self.in_use.line(self.store.shape());
+        let size = member_length(&line);
         match self.store.replace(place, side as u8, size) {
             MemberAnswer::Replaced => {
                 note_long(&mut self.label, 2 * place + side as u8);

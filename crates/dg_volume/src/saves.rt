@@ -74,7 +74,7 @@ fn recent_inodes(alloc: Global, hot: &Hot) -> Result<Numbers, NoMemory>
 }
 
 /// Whether a member is good.
-fn is_good<R: Rack>(store: &Store<R>, member: u8) -> bool
+pub fn is_good<R: Rack>(store: &Store<R>, member: u8) -> bool
     requires sound { IsSound R.Rack store.now }
     requires member { member < 2 * (stored_shape store.now).b }
     ensures { result ≡ is_good (stored_members store.now member) }
@@ -109,7 +109,8 @@ impl<S: InPhase, R: Rack> Volume<S, R> {
         ensures given { given_of self.new ≡ given_of self.old }
     {
         let body = self.body(alloc, hot)?;
-        let answer = save(&mut self.store, &mut self.label, &body)?;
+        let line = self.in_use.line(self.store.shape());
+        let answer = save(&mut self.store, &line, &mut self.label, &body)?;
         Ok(self.in_use.saved(answer))
     }
 

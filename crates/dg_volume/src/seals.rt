@@ -2,13 +2,14 @@
 ghost use Rattle.std.specs.Prelude.{◌≡◌, ◌+◌, ◌*◌, ◌<◌, ℕ, All, List, Option, false, true, length, max, min, IfOk, OnErr};
 ghost use Rattle.std.specs.List.{list_any};
 ghost use Rattle.dg_hot.specs.Spreads.{HasSpread, HasSpreadSome, IsLost};
-ghost use Rattle.dg_label.specs.Labels.{IsLabeled};
+ghost use Rattle.dg_label.specs.Labels.{HasOwnSeal};
 ghost use Rattle.dg_model.specs.Copies.{lacks_copy};
 ghost use Rattle.dg_model.specs.Homes.{Ascend};
 ghost use Rattle.dg_model.specs.Moves.{AreTargets, missing_in};
 ghost use Rattle.dg_model.specs.Placed.{IsPlaced};
 ghost use Rattle.dg_model.specs.States.{has_lost};
 ghost use Rattle.dg_model.specs.Tables.{sites_in};
+ghost use Rattle.dg_model.specs.declared.shapes.Shape.{Shape};
 ghost use Rattle.dg_model.specs.declared.wants.Want.{Want};
 ghost use Rattle.dg_move.specs.Answers.{NamesLoss};
 ghost use Rattle.dg_plan.specs.Targets.{blocks_in, wants_of};
@@ -31,7 +32,7 @@ use std::alloc::Global;
 /// Opens the seal where members are to be written.
 pub fn open_where<R: Rack>(store: &mut Store<R>, label: &mut Option<KeptLabel>, writes: bool)
     requires sound { IsSound R.Rack store.old }
-    requires labeled { IsLabeled R.Rack store.old label.old }
+    requires seal { HasOwnSeal (shape_of store.old) label.old }
     ensures { OpensWhere R.Rack writes store.old store.new label.old label.new }
 {
     if !writes {
@@ -48,7 +49,7 @@ pub fn write_opened<R: Rack>(
     buf: &[u8],
 ) -> Result<StoreWrite, NoMemory>
     requires sound { IsSound R.Rack store.old }
-    requires labeled { IsLabeled R.Rack store.old label.old }
+    requires seal { HasOwnSeal (shape_of store.old) label.old }
     requires whole { has_lost (shape_of store.old) (members_of store.old) ≡ false }
     requires range { block < (shape_of store.old).n }
     requires size { length buf.now ≡ (shape_of store.old).l }
@@ -58,7 +59,7 @@ pub fn write_opened<R: Rack>(
     ensures err { OnErr result (IsUnchanged R.Rack store.old store.new) }
     ensures most { CallsAtMost R.Rack store.old store.new
         (opening_calls label.old (2 * (shape_of store.old).b) + 2 * max 1 (length (sites_in (table_of store.old) block))) }
-    ensures label { Relabels R.Rack store.old store.new label.old label.new }
+    ensures label { (line : Shape) → Relabels R.Rack line store.old store.new label.old label.new }
 {
     open_where(store, label, true);
     store.write(block, buf)
@@ -72,13 +73,13 @@ pub fn move_within<R: Rack>(
     limit: u32,
 ) -> Result<TendAnswer, NoMemory>
     requires sound { IsSound R.Rack store.old }
-    requires labeled { IsLabeled R.Rack store.old label.old }
+    requires seal { HasOwnSeal (shape_of store.old) label.old }
     requires size { blocks_in targets.now ≡ (shape_of store.old).n }
     requires targets { AreTargets (wants_of targets.now) (table_of store.old) }
     requires live { has_lost (shape_of store.old) (members_of store.old) ≡ false }
     ensures array { HasMovedArray R.Rack store.old store.new }
     ensures written { SameWritten (table_of store.old) (table_of store.new) }
-    ensures label { Relabels R.Rack store.old store.new label.old label.new }
+    ensures label { (line : Shape) → Relabels R.Rack line store.old store.new label.old label.new }
     ensures moves { IfOk result (λ answer. EndsMoves (wants_of targets.now) limit (table_of store.old) (table_of store.new) (members_of store.new) answer) }
     ensures still { min limit (missing_in (wants_of targets.now) (table_of store.old)) ≡ 0 → rack_of store.new ≡ rack_of store.old }
     ensures lost { IfOk result (λ answer. NamesLoss (shape_of store.new) (members_of store.new) answer) }
@@ -103,13 +104,13 @@ pub fn spread_recent<R: Rack>(
     copies: &mut Homes,
 ) -> Result<DiffuseAnswer, NoMemory>
     requires sound { IsSound R.Rack store.old }
-    requires labeled { IsLabeled R.Rack store.old label.old }
+    requires seal { HasOwnSeal (shape_of store.old) label.old }
     requires whole { has_lost (shape_of store.old) (members_of store.old) ≡ false }
     requires placed { (wants : List (Option Want)) × AreWanted (table_of store.old) inference.now wants
         × IsPlaced wants (table_of store.old) homes.now copies.old }
     ensures array { HasMovedArray R.Rack store.old store.new }
     ensures written { SameWritten (table_of store.old) (table_of store.new) }
-    ensures label { Relabels R.Rack store.old store.new label.old label.new }
+    ensures label { (line : Shape) → Relabels R.Rack line store.old store.new label.old label.new }
     ensures placed { (wants : List (Option Want)) → AreWanted (table_of store.old) inference.now wants
         → IsPlaced wants (table_of store.new) homes.now copies.new }
     ensures whole { IfOk result (λ answer. (n : ℕ) → answer ≡ DiffuseAnswer.Diffused n

@@ -100,7 +100,7 @@ fn worn_marks(inference: Inference, block: u32) -> Vec<bool>
 }
 
 /// Takes what is inferred out of a phase, and leaves a worn one.
-fn take_inference(phase: &mut AnyPhase) -> Option<Inference>
+pub fn take_inference(phase: &mut AnyPhase) -> Option<Inference>
     ensures kept { MatchOption result (kept_in phase.old ≡ None) (λ inference. kept_in phase.old ≡ Some inference) }
     ensures worn { MatchOption result (phase_in phase.old ≡ Phase.Worn) (λ inference. phase_in phase.old ≢ Phase.Worn) }
     ensures left_phase { phase_in phase.new ≡ Phase.Worn }

@@ -5,7 +5,7 @@ use Rattle.dg_io.proofs.outside.write_all.Goals as goal
 
 -- a call of n bytes that takes the rest of a piece of `all` bytes is the first one
 one_call : (at n all before mid new : ℕ) → at < all → n ≡ all - at → new ≤ mid + 1
-  → (mid ≤ before) ⊎ ((at ≡ all) × (mid ≤ before + 1)) → (new ≤ before) ⊎ ((at + n ≡ all) × (new ≤ before + 1))
+    → (mid ≤ before) ⊎ ((at ≡ all) × (mid ≤ before + 1)) → (new ≤ before) ⊎ ((at + n ≡ all) × (new ≤ before + 1))
 one_call at n all before mid new more takes most (inl none) = inr (omega (arith, more, takes), omega (arith, most, none))
 one_call at n all before mid new more takes most (inr past) = absurd (omega (arith, more, past.0))
 
@@ -17,9 +17,9 @@ loop-at-preserved g c = record {
   whole_on = (λ w. c.in_ok-at.ensures.whole_on.0 (c.loop-at.invariant.whole_on.0 w), λ w. c.loop-at.invariant.whole_on.1 (c.in_ok-at.ensures.whole_on.1 w));
   later = omega (arith, c.loop-at.invariant.later, c.in_ok-at.ensures.counted.later);
   each_call =
-    let some : 0 < c.in_ok-at.field-0 = c.in_ok-at.ensures.some (omega (arith, c.loop-at-test.true)) in
-    omega (arith, some, c.loop-at.invariant.each_call, c.in_ok-at.ensures.counted.most);
+      let some : 0 < c.in_ok-at.field-0 = c.in_ok-at.ensures.some (omega (arith, c.loop-at-test.true)) in
+      omega (arith, some, c.loop-at.invariant.each_call, c.in_ok-at.ensures.counted.most);
   few_calls = λ w. one_call _ _ _ _ _ _ (omega (arith, c.loop-at-test.true))
-    (let all : c.in_ok-at.field-0 ≡ _ = c.in_ok-at.ensures.takes_whole (c.loop-at.invariant.whole_on.0 w) in omega (arith, all))
-    c.in_ok-at.ensures.counted.most (c.loop-at.invariant.few_calls w);
+      (let all : c.in_ok-at.field-0 ≡ _ = c.in_ok-at.ensures.takes_whole (c.loop-at.invariant.whole_on.0 w) in omega (arith, all))
+      c.in_ok-at.ensures.counted.most (c.loop-at.invariant.few_calls w);
 }

@@ -11,7 +11,7 @@ invariant-loop-at g l = record {
   later : g.K.Sink.calls l.fn.sink ≤ g.K.Sink.calls l.sink;
   each_call : g.K.Sink.calls l.sink ≤ g.K.Sink.calls l.fn.sink + l.at;
   few_calls : g.K.Sink.whole l.fn.sink
-    → (g.K.Sink.calls l.sink ≤ g.K.Sink.calls l.fn.sink) ⊎ ((l.at ≡ length l.piece) × (g.K.Sink.calls l.sink ≤ g.K.Sink.calls l.fn.sink + 1));
+      → (g.K.Sink.calls l.sink ≤ g.K.Sink.calls l.fn.sink) ⊎ ((l.at ≡ length l.piece) × (g.K.Sink.calls l.sink ≤ g.K.Sink.calls l.fn.sink + 1));
 }
 
 abbrev pub decreases-loop-at : goal.decreases-loop-at

@@ -19,10 +19,9 @@ loop-member-preserved g c =
     let a = c.args.store.now in
     let b = c.loop-member.store in
     let d = c.lengthen_one.new.store in
-    let change : ℕ → List ℕ → List ℕ → Type 0 = λ (q : ℕ). Extended (member_length 2 (shape_of a)) in
+    let change : ℕ → List ℕ → List ℕ → Type 0 = λ (q : ℕ). Extended (member_length 2 c.args.line.now) in
     let fails : ℕ → List ℕ → List ℕ → Type 0 = λ (q : ℕ). KeepsFront in
-    let touches : Touches g.R.Rack n (change n) b d =
-    subst (λ (sh : Shape). Touches g.R.Rack n (Extended (member_length 2 sh)) b d) old.passes.array.stays.shape c.lengthen_one.ensures.touches in
+    let touches : Touches g.R.Rack n (change n) b d = c.lengthen_one.ensures.touches in
     record {
       passes = passes_more g.R.Rack change n a b d old.passes touches;
       fallen = fallen_more g.R.Rack fails change n a b d old.passes touches old.fallen c.lengthen_one.ensures.fallen;
@@ -32,7 +31,7 @@ loop-member-preserved g c =
 
 pub loop-member-init : goal.loop-member-init
 loop-member-init g c = record {
-  passes = passes_none g.R.Rack (λ (q : ℕ). Extended (member_length 2 (shape_of c.args.store.now))) c.args.store.now c.requires.sound;
+  passes = passes_none g.R.Rack (λ (q : ℕ). Extended (member_length 2 c.args.line.now)) c.args.store.now c.requires.sound;
   fallen = fallen_none g.R.Rack (λ (q : ℕ). KeepsFront) c.args.store.now;
   uncalled = λ q good long. uncalled_none g.R.Rack q c.args.store.now;
   most = omega arith;
@@ -43,16 +42,16 @@ returns-clause-whole g c =
     let a = c.args.store.now in
     let b = ap (λ (sh : Shape). sh.b) c.shape.ensures in
     let end : c.loop-member.member ≡ 2 * (shape_of a).b = omega (arith, b) in
-    whole_extended g.R.Rack a c.loop-member.store c.requires.sound c.args.label.now c.requires.labeled
-    (subst (λ (n : ℕ). Passes g.R.Rack n (λ (q : ℕ). Extended (member_length 2 (shape_of a))) a c.loop-member.store) end c.loop-member.invariant.passes)
+    whole_extended g.R.Rack a c.loop-member.store c.requires.sound c.args.line.now c.args.label.now c.requires.labeled
+    (subst (λ (n : ℕ). Passes g.R.Rack n (λ (q : ℕ). Extended (member_length 2 c.args.line.now)) a c.loop-member.store) end c.loop-member.invariant.passes)
 
 pub returns-clause-fronts : goal.returns-clause-fronts
 returns-clause-fronts g c =
     let a = c.args.store.now in
     let b = ap (λ (sh : Shape). sh.b) c.shape.ensures in
     let end : c.loop-member.member ≡ 2 * (shape_of a).b = omega (arith, b) in
-    extended_fronts g.R.Rack a c.loop-member.store (member_length 2 (shape_of a)) c.requires.sound
-    (subst (λ (n : ℕ). Passes g.R.Rack n (λ (q : ℕ). Extended (member_length 2 (shape_of a))) a c.loop-member.store) end c.loop-member.invariant.passes)
+    extended_fronts g.R.Rack a c.loop-member.store (member_length 2 c.args.line.now) c.requires.sound
+    (subst (λ (n : ℕ). Passes g.R.Rack n (λ (q : ℕ). Extended (member_length 2 c.args.line.now)) a c.loop-member.store) end c.loop-member.invariant.passes)
     c.loop-member.invariant.fallen
 
 pub returns-clause-most : goal.returns-clause-most

@@ -7,12 +7,12 @@ use Rattle.dg_label.specs.Saves.{short_members}
 use Rattle.dg_model.specs.Members.{is_good}
 use Rattle.dg_model.specs.Saves.{member_length}
 use Rattle.dg_store.specs.Leaves.{CallsAtMost}
-use Rattle.dg_store.specs.Stores.{members_of, shape_of}
+use Rattle.dg_store.specs.Stores.{members_of}
 use Rattle.dg_label.proofs.passes.lengthen.Given as goal
 
 abbrev pub invariant-loop-member : goal.invariant-loop-member
 invariant-loop-member g l = record {
-  passes : Passes g.R.Rack l.member (λ (q : ℕ). Extended (member_length 2 (shape_of l.fn.store))) l.fn.store l.store;
+  passes : Passes g.R.Rack l.member (λ (q : ℕ). Extended (member_length 2 l.line)) l.fn.store l.store;
   fallen : LeavesFallen g.R.Rack (λ (q : ℕ). KeepsFront) l.fn.store l.store;
   uncalled : (q : ℕ) → is_good (members_of l.fn.store q) ≡ true → is_long l.label q ≡ true → IsUncalled g.R.Rack q l.fn.store l.store;
   most : CallsAtMost g.R.Rack l.fn.store l.store (short_members l.label l.member);

@@ -13,8 +13,8 @@ no_copies : (copies limit missing : ℕ) → nat_lt 0 copies ≡ false → copie
 no_copies copies limit missing none is = grind (arith, nat_tests)
 
 pub returns-in-Some-clause-label : goal.returns-in-Some-clause-label
-returns-in-Some-clause-label g c =
-    labels_lost g.R.Rack _ c.args.store.now c.open_where.new.store c.args.label.now c.open_where.new.label c.requires.sound c.requires.labeled c.requires.live c.open_where.ensures
+returns-in-Some-clause-label g c = λ line.
+    labels_lost g.R.Rack line _ c.args.store.now c.open_where.new.store c.args.label.now c.open_where.new.label c.requires.sound c.requires.live c.open_where.ensures
 
 pub returns-in-Some-clause-array : goal.returns-in-Some-clause-array
 returns-in-Some-clause-array g c = opened_array g.R.Rack c.args.store.now c.open_where.new.store c.open_where.ensures.array
@@ -46,9 +46,9 @@ returns-clause-array g c =
     moved_behind g.R.Rack (wants_of c.args.targets.now) c.args.store.now c.open_where.new.store c.tend.new.store c.open_where.ensures.array c.tend.ensures.on
 
 pub returns-clause-label : goal.returns-clause-label
-returns-clause-label g c =
-    labels_moved g.R.Rack (wants_of c.args.targets.now) c.args.limit _ c.args.store.now c.open_where.new.store c.tend.new.store c.args.label.now c.open_where.new.label c.requires.sound
-    c.requires.labeled c.requires.live c.open_where.ensures
+returns-clause-label g c = λ line.
+    labels_moved g.R.Rack line (wants_of c.args.targets.now) c.args.limit _ c.args.store.now c.open_where.new.store c.tend.new.store c.args.label.now c.open_where.new.label c.requires.sound
+    c.requires.live c.open_where.ensures
     (λ none. subst (λ (t : Table). min c.args.limit (missing_in (wants_of c.args.targets.now) t) ≡ 0) (sym c.open_where.ensures.array.table)
     (no_copies c.min-copies.result c.args.limit (missing_in (wants_of c.args.targets.now) (table_of c.args.store.now)) none
     (c.min-copies.ensures ∙ ap (λ (n : ℕ). min c.args.limit n) c.missing.ensures)))

@@ -6,4 +6,4 @@ use Rattle.dg_volume.proofs.seals.open_where.Goals as goal
 pub returns-then-not-writes : goal.returns-then-not-writes
 returns-then-not-writes g c =
     subst (λ (w : Bool). OpensWhere g.R.Rack w c.args.store.now c.args.store.now c.args.label.now c.args.label.now) (sym c.if-not-writes.true)
-    (where_none g.R.Rack c.args.store.now c.args.label.now c.requires.sound c.requires.labeled)
+    (where_none g.R.Rack c.args.store.now c.args.label.now c.requires.sound)

@@ -46,20 +46,20 @@ returns-then-not-any_lacks_copy-clause-diffused g c wants wanted n is =
     (none_in n is) (none_copied g.R.Rack wants c.args.homes.now c.args.hot.now c.args.copies.now c.args.store.now none)
 
 pub returns-then-not-any_lacks_copy-clause-label : goal.returns-then-not-any_lacks_copy-clause-label
-returns-then-not-any_lacks_copy-clause-label g c = relabels_none g.R.Rack c.args.store.now c.args.label.now c.requires.labeled
+returns-then-not-any_lacks_copy-clause-label g c = λ line. relabels_none g.R.Rack line c.args.store.now c.args.label.now
 
 pub returns-in_err-blocks-clause-label : goal.returns-in_err-blocks-clause-label
-returns-in_err-blocks-clause-label g c = relabels_none g.R.Rack c.args.store.now c.args.label.now c.requires.labeled
+returns-in_err-blocks-clause-label g c = λ line. relabels_none g.R.Rack line c.args.store.now c.args.label.now
 
 pub returns-in_err-recent-clause-label : goal.returns-in_err-recent-clause-label
-returns-in_err-recent-clause-label g c = relabels_none g.R.Rack c.args.store.now c.args.label.now c.requires.labeled
+returns-in_err-recent-clause-label g c = λ line. relabels_none g.R.Rack line c.args.store.now c.args.label.now
 
 pub returns-in-Some-clause-array : goal.returns-in-Some-clause-array
 returns-in-Some-clause-array g c = opened_array g.R.Rack c.args.store.now c.open_seal.new.store c.open_seal.ensures.array
 
 pub returns-in-Some-clause-label : goal.returns-in-Some-clause-label
-returns-in-Some-clause-label g c =
-    labels_opened g.R.Rack c.args.store.now c.open_seal.new.store c.args.label.now c.open_seal.new.label c.requires.sound c.requires.whole c.open_seal.ensures
+returns-in-Some-clause-label g c = λ line.
+    labels_opened g.R.Rack line c.args.store.now c.open_seal.new.store c.args.label.now c.open_seal.new.label c.requires.sound c.requires.whole c.open_seal.ensures
 
 pub returns-in-Some-clause-cut : goal.returns-in-Some-clause-cut
 returns-in-Some-clause-cut g c wants wanted s is =
@@ -69,8 +69,8 @@ pub returns-clause-array : goal.returns-clause-array
 returns-clause-array g c = spread_behind g.R.Rack c.args.store.now c.open_seal.new.store c.diffuse.new.store c.open_seal.ensures.array c.diffuse.ensures.moved
 
 pub returns-clause-label : goal.returns-clause-label
-returns-clause-label g c =
-    labels_behind g.R.Rack c.args.store.now c.open_seal.new.store c.diffuse.new.store c.args.label.now c.open_seal.new.label c.requires.sound c.requires.whole c.open_seal.ensures
+returns-clause-label g c = λ line.
+    labels_behind g.R.Rack line c.args.store.now c.open_seal.new.store c.diffuse.new.store c.args.label.now c.open_seal.new.label c.requires.sound c.requires.whole c.open_seal.ensures
     c.diffuse.ensures.moved.leaves
 
 -- ---- behind the opening

@@ -7,8 +7,8 @@ returns-clause-most g c =
     calls_behind g.R.Rack c.args.store.now c.open_where.new.store c.write.new.self c.args.label.now c.open_where.new.label c.args.block (c.open_where.ensures.opens refl) c.write.ensures.most
 
 pub returns-clause-label : goal.returns-clause-label
-returns-clause-label g c =
-    labels_behind g.R.Rack c.args.store.now c.open_where.new.store c.write.new.self c.args.label.now c.open_where.new.label c.requires.sound c.requires.whole
+returns-clause-label g c = λ line.
+    labels_behind g.R.Rack line c.args.store.now c.open_where.new.store c.write.new.self c.args.label.now c.open_where.new.label c.requires.sound c.requires.whole
     (c.open_where.ensures.opens refl) c.write.ensures.leaves
 
 pub returns-clause-falls : goal.returns-clause-falls

@@ -14,6 +14,7 @@ returns g c =
       homes = c.new-6.ensures ∙ c.new-5.ensures.items;
       copies = c.new-8.ensures ∙ c.new-7.ensures.items;
       boundaries = c.in_ok-in_use.ensures.boundaries;
+      long = c.in_ok-in_use.ensures.long;
       live = c.in_ok-in_use.ensures.live;
       cut = c.in_ok-in_use.ensures.cut;
       label = refl;

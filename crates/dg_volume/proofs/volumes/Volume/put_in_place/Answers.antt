@@ -1,5 +1,6 @@
 use Rattle.std.proofs.Common.{◌∙◌, ◌<◌, ◌^◌, ◌-◌, List, refl, sym, subst}
 use Rattle.std.specs.Prelude.{All}
+use Rattle.dg_label.specs.LineLaws.{seal_on}
 use Rattle.dg_model.specs.Tables.{Table}
 use Rattle.dg_model.specs.declared.homes.Home.{Home}
 use Rattle.dg_plan.specs.Targets.{wants_of}
@@ -9,9 +10,9 @@ use Rattle.dg_volume.proofs.ArrayLaws.{moved_both, no_plan_before, on_err, plan_
 use Rattle.dg_volume.proofs.MoveSteps.{check_refused, has_moved, has_read, keeps_of, labels_run, loose_not_settled, moved_leaves, settle_cramped, settle_lost_first, settle_lost_moving, settle_lost_reading, written_run}
 use Rattle.dg_volume.proofs.PlacedLaws.{few_missing}
 use Rattle.dg_volume.proofs.SettleSteps.{plan_few, plan_homes, put_in_place, unlimited}
-use Rattle.dg_volume.proofs.LabelLaws.{relabels_read}
 use Rattle.dg_volume.proofs.VolumeLaws.{leaves_none, reads_leave}
 use Rattle.dg_volume.proofs.volumes.Volume.put_in_place.Goals as goal
+use Rattle.dg_volume.specs.Volumes.{line_of}
 
 pub returns-in-Some-clause-refused : goal.returns-in-Some-clause-refused
 returns-in-Some-clause-refused g c = settle_lost_first g.S.InPhase g.R.Rack c.args.self.now c.in-Some.lost c.requires.well c.in-Some.ensures
@@ -65,7 +66,7 @@ returns-in_err-move_within-in-Found-clause-leaves g c =
     let targets = c.in-Found.targets in
     let read = read_both g.R.Rack a.store first mid d.reads e.reads in
     let moved = moved_both g.R.Rack a.store mid last read t.array in
-    let labels = labels_run g.S.InPhase g.R.Rack a mid last c.move_within.new.label read t.array t.label in
+    let labels = labels_run g.S.InPhase g.R.Rack a mid last c.move_within.new.label read t.array (t.label (line_of a)) in
     moved_leaves g.S.InPhase g.R.Rack a b c.requires.well c.requires.loose (has_moved g.S.InPhase g.R.Rack a b (record { phase_is = refl; pending = refl; homes = refl; copies = refl; in_use = refl }) (e.levels ∙ d.levels) c.requires.well
     (written_run g.S.InPhase g.R.Rack a mid last read t.written) labels moved)
 
@@ -97,7 +98,7 @@ returns-in-Lost-2-clause-leaves g c =
     let targets = c.in-Found.targets in
     let read = read_both g.R.Rack a.store first mid d.reads e.reads in
     let moved = moved_both g.R.Rack a.store mid last read t.array in
-    let labels = labels_run g.S.InPhase g.R.Rack a mid last c.move_within.new.label read t.array t.label in
+    let labels = labels_run g.S.InPhase g.R.Rack a mid last c.move_within.new.label read t.array (t.label (line_of a)) in
     moved_leaves g.S.InPhase g.R.Rack a b c.requires.well c.requires.loose (has_moved g.S.InPhase g.R.Rack a b (record { phase_is = refl; pending = refl; homes = refl; copies = refl; in_use = refl }) (e.levels ∙ d.levels) c.requires.well
     (written_run g.S.InPhase g.R.Rack a mid last read t.written) labels moved)
 
@@ -114,7 +115,7 @@ returns-in-Lost-2-clause-refused g c =
     let targets = c.in-Found.targets in
     let read = read_both g.R.Rack a.store first mid d.reads e.reads in
     let moved = moved_both g.R.Rack a.store mid last read t.array in
-    let labels = labels_run g.S.InPhase g.R.Rack a mid last c.move_within.new.label read t.array t.label in
+    let labels = labels_run g.S.InPhase g.R.Rack a mid last c.move_within.new.label read t.array (t.label (line_of a)) in
     let kept = c.in-Some-inference.inference.now in
     let plan = plan_before g.R.Rack a.store first mid kept a.homes targets d.reads (rw c.in-Found.is at e.answer) in
     let few = few_missing (wants_of targets) (table_of mid) e.reads.sound.table.shape in
@@ -150,7 +151,7 @@ returns-in-Tended-clause-leaves g c =
     let targets = c.in-Found.targets in
     let read = read_both g.R.Rack a.store first mid d.reads e.reads in
     let moved = moved_both g.R.Rack a.store mid last read t.array in
-    let labels = labels_run g.S.InPhase g.R.Rack a mid last c.move_within.new.label read t.array t.label in
+    let labels = labels_run g.S.InPhase g.R.Rack a mid last c.move_within.new.label read t.array (t.label (line_of a)) in
     let kept = c.in-Some-inference.inference.now in
     let plan = plan_before g.R.Rack a.store first mid kept a.homes targets d.reads (rw c.in-Found.is at e.answer) in
     let small = subst (λ (x : List Home). All (λ (home : Home). home.inode < 2 ^ 32) x) c.as_slice.ensures c.inodes_fit.ensures in
@@ -181,7 +182,7 @@ returns-in-Tended-clause-put g c done =
     let targets = c.in-Found.targets in
     let read = read_both g.R.Rack a.store first mid d.reads e.reads in
     let moved = moved_both g.R.Rack a.store mid last read t.array in
-    let labels = labels_run g.S.InPhase g.R.Rack a mid last c.move_within.new.label read t.array t.label in
+    let labels = labels_run g.S.InPhase g.R.Rack a mid last c.move_within.new.label read t.array (t.label (line_of a)) in
     let kept = c.in-Some-inference.inference.now in
     let plan = plan_before g.R.Rack a.store first mid kept a.homes targets d.reads (rw c.in-Found.is at e.answer) in
     let few = few_missing (wants_of targets) (table_of mid) e.reads.sound.table.shape in
@@ -215,12 +216,11 @@ returns-in-Tended-clause-put g c done =
     (subst (λ (x : Table). SameWritten x (table_of last)) read.reads.table t.written)
     (rw c.in-Tended.is at t.lost) few (c.limit_of_all.ensures.moves (wants_of targets) (2 ^ 32 - 1) (table_of mid) few) (rw c.in-Tended.is at t.moves) t.still
 
-pub move_within-requires-clause-labeled : goal.move_within-requires-clause-labeled
-move_within-requires-clause-labeled g c =
+pub move_within-requires-clause-seal : goal.move_within-requires-clause-seal
+move_within-requires-clause-seal g c =
     let a = c.args.self.now in
     let read = read_both g.R.Rack a.store c.checked.new.store c.planned.new.store c.in_ok-unsettled.ensures.reads c.in_ok-lost.ensures.reads in
-    let first = relabels_read g.R.Rack a.store c.planned.new.store a.label c.requires.well.labeled read.reads in
-    first.labeled
+    seal_on (shape_of a.store) (shape_of c.planned.new.store) a.label read.reads.keeps.shape c.requires.well.labeled.sealed
 
 pub returns-in_err-unsettled-clause-leaves : goal.returns-in_err-unsettled-clause-leaves
 returns-in_err-unsettled-clause-leaves g c =

@@ -5,11 +5,12 @@ use Rattle.dg_volume.specs.Phases.{CanReapAll}
 use Rattle.dg_volume.specs.Refills.{AreReapMarks}
 use Rattle.dg_volume.proofs.VolumeLaws.{leaves_none}
 use Rattle.dg_volume.proofs.volumes.Volume.rebuild.Goals as goal
+use Rattle.dg_volume.specs.Volumes.{line_of}
 
 pub returns-clause-leaves : goal.returns-clause-leaves
 returns-clause-leaves g c =
     let a = c.args.self.now in
-    let o = c.open_refill-ended.ensures in
+    let o = c.open_refill-ended.ensures (line_of a) in
     let k = c.rebuild-refilled.ensures in
     let call : CallsRebuild g.S.InPhase g.R.Rack c.open_refill-ended.new.store c.in-Some.place c.args.limit c.deref.result.now c.new-reaped.result.items c.rebuild-refilled.new.reaped.items
     c.rebuild-refilled.result c.rebuild-refilled.new.store = record {
@@ -49,7 +50,7 @@ returns-clause-leaves g c =
 pub returns-clause-steps : goal.returns-clause-steps
 returns-clause-steps g c =
     let a = c.args.self.now in
-    let o = c.open_refill-ended.ensures in
+    let o = c.open_refill-ended.ensures (line_of a) in
     let k = c.rebuild-refilled.ensures in
     let call : CallsRebuild g.S.InPhase g.R.Rack c.open_refill-ended.new.store c.in-Some.place c.args.limit c.deref.result.now c.new-reaped.result.items c.rebuild-refilled.new.reaped.items
     c.rebuild-refilled.result c.rebuild-refilled.new.store = record {
@@ -90,7 +91,7 @@ returns-clause-steps g c =
 pub returns-clause-spares : goal.returns-clause-spares
 returns-clause-spares g c =
     let a = c.args.self.now in
-    let o = c.open_refill-ended.ensures in
+    let o = c.open_refill-ended.ensures (line_of a) in
     let k = c.rebuild-refilled.ensures in
     let call : CallsRebuild g.S.InPhase g.R.Rack c.open_refill-ended.new.store c.in-Some.place c.args.limit c.deref.result.now c.new-reaped.result.items c.rebuild-refilled.new.reaped.items
     c.rebuild-refilled.result c.rebuild-refilled.new.store = record {
@@ -130,22 +131,22 @@ returns-clause-spares g c =
 pub returns-in-Some-ended-clause-leaves : goal.returns-in-Some-ended-clause-leaves
 returns-in-Some-ended-clause-leaves g c =
     let a = c.args.self.now in
-    let o = c.open_refill-ended.ensures in
+    let o = c.open_refill-ended.ensures (line_of a) in
     opened_leaves g.S.InPhase g.R.Rack a (record a { store = c.open_refill-ended.new.store; label = c.open_refill-ended.new.label }) c.requires.well
-    (record { beside = record { phase_is = refl; pending = refl; homes = refl; copies = refl; in_use = refl }; levels = refl; opening = o.array; labels = o.labels })
+    (record { labeled = c.requires.well.labeled; beside = record { phase_is = refl; pending = refl; homes = refl; copies = refl; in_use = refl }; levels = refl; opening = o.array; labels = o.labels })
 
 pub returns-in-Some-ended-clause-spares : goal.returns-in-Some-ended-clause-spares
 returns-in-Some-ended-clause-spares g c =
     let a = c.args.self.now in
-    let o = c.open_refill-ended.ensures in
+    let o = c.open_refill-ended.ensures (line_of a) in
     opened_spares g.S.InPhase g.R.Rack c.change_of_loose_blocks.ensures a (record a { store = c.open_refill-ended.new.store; label = c.open_refill-ended.new.label })
-    (record { beside = record { phase_is = refl; pending = refl; homes = refl; copies = refl; in_use = refl }; levels = refl; opening = o.array; labels = o.labels })
+    (record { labeled = c.requires.well.labeled; beside = record { phase_is = refl; pending = refl; homes = refl; copies = refl; in_use = refl }; levels = refl; opening = o.array; labels = o.labels })
 
 pub returns-in-Some-ended-clause-steps : goal.returns-in-Some-ended-clause-steps
 returns-in-Some-ended-clause-steps g c =
     let a = c.args.self.now in
     let e = c.in-Some-ended.ensures in
-    let o = c.open_refill-ended.ensures in
+    let o = c.open_refill-ended.ensures (line_of a) in
     rw c.rebuilt.ensures
     (steps_ended g.S.InPhase g.R.Rack a (record a { store = c.open_refill-ended.new.store; label = c.open_refill-ended.new.label }) c.in-Some.place c.args.limit c.in-Some-ended.answer
     (record {
@@ -154,23 +155,23 @@ returns-in-Some-ended-clause-steps g c =
       sound = c.requires.well.array;
       was = e.was;
       none = e.none;
-      opened = record { beside = record { phase_is = refl; pending = refl; homes = refl; copies = refl; in_use = refl }; levels = refl; opening = o.array; labels = o.labels };
+      opened = record { labeled = c.requires.well.labeled; beside = record { phase_is = refl; pending = refl; homes = refl; copies = refl; in_use = refl }; levels = refl; opening = o.array; labels = o.labels };
     })
     e.lost e.fell)
 
 pub returns-in_err-dead-clause-leaves : goal.returns-in_err-dead-clause-leaves
 returns-in_err-dead-clause-leaves g c =
     let a = c.args.self.now in
-    let o = c.open_refill-ended.ensures in
+    let o = c.open_refill-ended.ensures (line_of a) in
     opened_leaves g.S.InPhase g.R.Rack a (record a { store = c.open_refill-ended.new.store; label = c.open_refill-ended.new.label }) c.requires.well
-    (record { beside = record { phase_is = refl; pending = refl; homes = refl; copies = refl; in_use = refl }; levels = refl; opening = o.array; labels = o.labels })
+    (record { labeled = c.requires.well.labeled; beside = record { phase_is = refl; pending = refl; homes = refl; copies = refl; in_use = refl }; levels = refl; opening = o.array; labels = o.labels })
 
 pub returns-in_err-dead-clause-spares : goal.returns-in_err-dead-clause-spares
 returns-in_err-dead-clause-spares g c =
     let a = c.args.self.now in
-    let o = c.open_refill-ended.ensures in
+    let o = c.open_refill-ended.ensures (line_of a) in
     opened_spares g.S.InPhase g.R.Rack c.change_of_loose_blocks.ensures a (record a { store = c.open_refill-ended.new.store; label = c.open_refill-ended.new.label })
-    (record { beside = record { phase_is = refl; pending = refl; homes = refl; copies = refl; in_use = refl }; levels = refl; opening = o.array; labels = o.labels })
+    (record { labeled = c.requires.well.labeled; beside = record { phase_is = refl; pending = refl; homes = refl; copies = refl; in_use = refl }; levels = refl; opening = o.array; labels = o.labels })
 
 pub returns-then-boundary-self-clause-leaves : goal.returns-then-boundary-self-clause-leaves
 returns-then-boundary-self-clause-leaves g c = leaves_none g.S.InPhase g.R.Rack c.args.self.now c.requires.well

@@ -1,10 +1,14 @@
 use Rattle.std.proofs.Common.{◌≡◌, ◌∙◌, ◌+◌, ◌*◌, ℕ, refl, ap, subst, arith}
 use Rattle.dg_io.specs.Told.{IsZeros}
+use Rattle.dg_label.specs.LineLaws.{line_on}
 use Rattle.dg_model.specs.Saves.{member_length}
+use Rattle.dg_model.specs.declared.shapes.Shape.{Shape}
 use Rattle.dg_store.specs.Leaves.{BytesChange}
-use Rattle.dg_volume.proofs.ReplaceSteps.{replace_leaves, steps_failed, steps_lost, steps_not_out, steps_replaced, steps_unused}
+use Rattle.dg_store.specs.Stores.{shape_of}
+use Rattle.dg_volume.proofs.ReplaceSteps.{line_enough, replace_leaves, steps_failed, steps_lost, steps_not_out, steps_replaced, steps_unused}
 use Rattle.dg_pair.specs.declared.boundaries.ReplaceAnswer.TheVariants.{Failed, Lost, NotOut, Replaced}
 use Rattle.dg_volume.proofs.VolumeLaws.{leaves_none}
+use Rattle.dg_volume.specs.Volumes.{line_of}
 use Rattle.dg_volume.proofs.volumes.Volume.replace.Goals as goal
 
 pub returns-in-Replaced-clause-leaves : goal.returns-in-Replaced-clause-leaves
@@ -35,7 +39,7 @@ returns-in-Replaced-clause-leaves g c =
       members = k.members;
       blank = λ is.
           subst (λ (n : ℕ). BytesChange g.R.Rack c.open_where.new.store c.replace.new.self (2 * c.in-Some.place + c.args.side) (IsZeros n))
-          (c.member_length-size.ensures ∙ ap (member_length 2) c.shape.ensures) (k.blank is);
+          (c.member_length-size.ensures ∙ ap (member_length 2) (c.line-line.ensures ∙ ap (λ (s : Shape). record s { b = a.in_use.long }) (c.shape.ensures ∙ c.open_where.ensures.array.stays.shape))) (k.blank is);
       other_bytes = k.other_bytes;
       other_faults = k.other_faults;
       faulty = k.faulty;
@@ -71,7 +75,7 @@ returns-in-Replaced-clause-steps g c =
       members = k.members;
       blank = λ is.
           subst (λ (n : ℕ). BytesChange g.R.Rack c.open_where.new.store c.replace.new.self (2 * c.in-Some.place + c.args.side) (IsZeros n))
-          (c.member_length-size.ensures ∙ ap (member_length 2) c.shape.ensures) (k.blank is);
+          (c.member_length-size.ensures ∙ ap (member_length 2) (c.line-line.ensures ∙ ap (λ (s : Shape). record s { b = a.in_use.long }) (c.shape.ensures ∙ c.open_where.ensures.array.stays.shape))) (k.blank is);
       other_bytes = k.other_bytes;
       other_faults = k.other_faults;
       faulty = k.faulty;
@@ -107,7 +111,7 @@ returns-in-Lost-clause-leaves g c =
       members = k.members;
       blank = λ is.
           subst (λ (n : ℕ). BytesChange g.R.Rack c.open_where.new.store c.replace.new.self (2 * c.in-Some.place + c.args.side) (IsZeros n))
-          (c.member_length-size.ensures ∙ ap (member_length 2) c.shape.ensures) (k.blank is);
+          (c.member_length-size.ensures ∙ ap (member_length 2) (c.line-line.ensures ∙ ap (λ (s : Shape). record s { b = a.in_use.long }) (c.shape.ensures ∙ c.open_where.ensures.array.stays.shape))) (k.blank is);
       other_bytes = k.other_bytes;
       other_faults = k.other_faults;
       faulty = k.faulty;
@@ -143,7 +147,7 @@ returns-in-Lost-clause-steps g c =
       members = k.members;
       blank = λ is.
           subst (λ (n : ℕ). BytesChange g.R.Rack c.open_where.new.store c.replace.new.self (2 * c.in-Some.place + c.args.side) (IsZeros n))
-          (c.member_length-size.ensures ∙ ap (member_length 2) c.shape.ensures) (k.blank is);
+          (c.member_length-size.ensures ∙ ap (member_length 2) (c.line-line.ensures ∙ ap (λ (s : Shape). record s { b = a.in_use.long }) (c.shape.ensures ∙ c.open_where.ensures.array.stays.shape))) (k.blank is);
       other_bytes = k.other_bytes;
       other_faults = k.other_faults;
       faulty = k.faulty;
@@ -179,7 +183,7 @@ returns-in-NotOut-clause-leaves g c =
       members = k.members;
       blank = λ is.
           subst (λ (n : ℕ). BytesChange g.R.Rack c.open_where.new.store c.replace.new.self (2 * c.in-Some.place + c.args.side) (IsZeros n))
-          (c.member_length-size.ensures ∙ ap (member_length 2) c.shape.ensures) (k.blank is);
+          (c.member_length-size.ensures ∙ ap (member_length 2) (c.line-line.ensures ∙ ap (λ (s : Shape). record s { b = a.in_use.long }) (c.shape.ensures ∙ c.open_where.ensures.array.stays.shape))) (k.blank is);
       other_bytes = k.other_bytes;
       other_faults = k.other_faults;
       faulty = k.faulty;
@@ -215,7 +219,7 @@ returns-in-NotOut-clause-steps g c =
       members = k.members;
       blank = λ is.
           subst (λ (n : ℕ). BytesChange g.R.Rack c.open_where.new.store c.replace.new.self (2 * c.in-Some.place + c.args.side) (IsZeros n))
-          (c.member_length-size.ensures ∙ ap (member_length 2) c.shape.ensures) (k.blank is);
+          (c.member_length-size.ensures ∙ ap (member_length 2) (c.line-line.ensures ∙ ap (λ (s : Shape). record s { b = a.in_use.long }) (c.shape.ensures ∙ c.open_where.ensures.array.stays.shape))) (k.blank is);
       other_bytes = k.other_bytes;
       other_faults = k.other_faults;
       faulty = k.faulty;
@@ -251,7 +255,7 @@ returns-in-Failed-clause-leaves g c =
       members = k.members;
       blank = λ is.
           subst (λ (n : ℕ). BytesChange g.R.Rack c.open_where.new.store c.replace.new.self (2 * c.in-Some.place + c.args.side) (IsZeros n))
-          (c.member_length-size.ensures ∙ ap (member_length 2) c.shape.ensures) (k.blank is);
+          (c.member_length-size.ensures ∙ ap (member_length 2) (c.line-line.ensures ∙ ap (λ (s : Shape). record s { b = a.in_use.long }) (c.shape.ensures ∙ c.open_where.ensures.array.stays.shape))) (k.blank is);
       other_bytes = k.other_bytes;
       other_faults = k.other_faults;
       faulty = k.faulty;
@@ -287,7 +291,7 @@ returns-in-Failed-clause-steps g c =
       members = k.members;
       blank = λ is.
           subst (λ (n : ℕ). BytesChange g.R.Rack c.open_where.new.store c.replace.new.self (2 * c.in-Some.place + c.args.side) (IsZeros n))
-          (c.member_length-size.ensures ∙ ap (member_length 2) c.shape.ensures) (k.blank is);
+          (c.member_length-size.ensures ∙ ap (member_length 2) (c.line-line.ensures ∙ ap (λ (s : Shape). record s { b = a.in_use.long }) (c.shape.ensures ∙ c.open_where.ensures.array.stays.shape))) (k.blank is);
       other_bytes = k.other_bytes;
       other_faults = k.other_faults;
       faulty = k.faulty;
@@ -309,3 +313,11 @@ pub place-requires : goal.place-requires
 place-requires g c =
     let most = c.requires.well.array.table.shape.most_boundaries in
     omega (arith, c.requires.well.in_use.number, most)
+
+pub replace-requires-clause-size : goal.replace-requires-clause-size
+replace-requires-clause-size g c =
+    let a = c.args.self.now in
+    let shape = c.open_where.ensures.array.stays.shape in
+    let line = c.line-line.ensures ∙ ap (λ (s : Shape). record s { b = a.in_use.long }) (c.shape.ensures ∙ shape) in
+    let enough = line_enough (line_of a) (shape_of c.open_where.new.store) (line_on (line_of a) (shape_of a.store) (shape_of c.open_where.new.store) shape c.requires.well.labeled.fits) in
+    omega (arith, enough, c.member_length-size.ensures, ap (member_length 2) line)

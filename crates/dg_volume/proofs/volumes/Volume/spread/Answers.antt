@@ -4,6 +4,7 @@ use Rattle.dg_model.specs.declared.homes.Home.{Home}
 use Rattle.dg_volume.proofs.CopySteps.{diffuse_leaves, diffuse_lost, diffuse_steps, wanted_by}
 use Rattle.dg_volume.proofs.VolumeLaws.{leaves_none}
 use Rattle.dg_volume.proofs.volumes.Volume.spread.Goals as goal
+use Rattle.dg_volume.specs.Volumes.{line_of}
 
 pub spread_recent-answer-requires-clause-placed : goal.spread_recent-answer-requires-clause-placed
 spread_recent-answer-requires-clause-placed g c =
@@ -36,7 +37,7 @@ returns-clause-leaves g c =
       small = subst (λ (x : List Home). All (λ (home : Home). home.inode < 2 ^ 32) x) c.as_slice.ensures c.inodes_fit.ensures;
       moved = k.array;
       written = k.written;
-      labels = k.label;
+      labels = k.label (line_of a);
       placed = k.placed place.wants wanted;
       live = k.whole;
       diffused = k.diffused place.wants wanted;
@@ -67,7 +68,7 @@ returns-clause-steps g c =
       small = subst (λ (x : List Home). All (λ (home : Home). home.inode < 2 ^ 32) x) c.as_slice.ensures c.inodes_fit.ensures;
       moved = k.array;
       written = k.written;
-      labels = k.label;
+      labels = k.label (line_of a);
       placed = k.placed place.wants wanted;
       live = k.whole;
       diffused = k.diffused place.wants wanted;

@@ -1,10 +1,11 @@
 use Rattle.std.proofs.Common.{refl}
+use Rattle.dg_label.specs.LineLaws.{seal_on}
 use Rattle.dg_store.specs.Stores.{KeepsBlocks, TellsAll}
 use Rattle.dg_volume.proofs.ArrayLaws.{moved_both, on_err, told_moved}
 use Rattle.dg_volume.proofs.MoveSteps.{has_moved, has_read, keeps_of, labels_run, moved_leaves, tend_cramped, tend_done, tend_lost_first, tend_lost_moving, tend_lost_reading, written_run}
-use Rattle.dg_volume.proofs.LabelLaws.{relabels_read}
 use Rattle.dg_volume.proofs.VolumeLaws.{leaves_none, reads_leave}
 use Rattle.dg_volume.proofs.volumes.Volume.tend_loose.Goals as goal
+use Rattle.dg_volume.specs.Volumes.{line_of}
 
 pub returns-in-Some-clause-steps : goal.returns-in-Some-clause-steps
 returns-in-Some-clause-steps g c = tend_lost_first g.S.InPhase g.R.Rack c.args.self.now c.args.limit c.in-Some.lost c.requires.well c.in-Some.ensures
@@ -45,7 +46,7 @@ returns-in-Tended-clause-steps g c =
     let t = c.in_ok-moved-in-Found.ensures in
     let kept = c.in-Some-inference.inference.now in
     let moved = t.array in
-    let labels = labels_run g.S.InPhase g.R.Rack a mid c.move_within.new.store c.move_within.new.label e.reads t.array t.label in
+    let labels = labels_run g.S.InPhase g.R.Rack a mid c.move_within.new.store c.move_within.new.label e.reads t.array (t.label (line_of a)) in
     tend_done g.S.InPhase g.R.Rack a kept c.in-Found.targets mid b
     (record {
       keeps = keeps_of g.S.InPhase g.R.Rack a kept c.requires.well c.in-Some-inference.ensures.kept;
@@ -70,7 +71,7 @@ returns-clause-leaves g c =
     moved_leaves g.S.InPhase g.R.Rack a b c.requires.well c.requires.loose
     (has_moved g.S.InPhase g.R.Rack a b (record { phase_is = refl; pending = refl; homes = refl; copies = refl; in_use = refl }) e.levels c.requires.well
     (written_run g.S.InPhase g.R.Rack a mid c.move_within.new.store e.reads t.written)
-    (labels_run g.S.InPhase g.R.Rack a mid c.move_within.new.store c.move_within.new.label e.reads t.array t.label)
+    (labels_run g.S.InPhase g.R.Rack a mid c.move_within.new.store c.move_within.new.label e.reads t.array (t.label (line_of a)))
     (moved_both g.R.Rack a.store mid c.move_within.new.store e.reads t.array))
 
 pub returns-clause-steps : goal.returns-clause-steps
@@ -82,7 +83,7 @@ returns-clause-steps g c =
     let t = c.in_ok-moved-in-Found.ensures in
     let kept = c.in-Some-inference.inference.now in
     let moved = t.array in
-    let labels = labels_run g.S.InPhase g.R.Rack a mid c.move_within.new.store c.move_within.new.label e.reads t.array t.label in
+    let labels = labels_run g.S.InPhase g.R.Rack a mid c.move_within.new.store c.move_within.new.label e.reads t.array (t.label (line_of a)) in
     let cut = rw c.in-Lost-2.is at t.moves in
     tend_lost_moving g.S.InPhase g.R.Rack a kept c.in-Found.targets mid b
     (record {
@@ -97,10 +98,10 @@ returns-clause-steps g c =
     })
     c.args.limit c.in-Lost-2.lost (record { loose = c.requires.loose; whole = c.in_default.ensures; in_use = c.requires.well.in_use }) refl (rw c.in-Lost-2.is at t.lost) cut
 
-pub move_within-requires-clause-labeled : goal.move_within-requires-clause-labeled
-move_within-requires-clause-labeled g c =
-    let first = relabels_read g.R.Rack c.args.self.now.store c.planned.new.store c.args.self.now.label c.requires.well.labeled c.in_ok-lost.ensures.reads.reads in
-    first.labeled
+pub move_within-requires-clause-seal : goal.move_within-requires-clause-seal
+move_within-requires-clause-seal g c =
+    let a = c.args.self.now in
+    seal_on (shape_of a.store) (shape_of c.planned.new.store) a.label c.in_ok-lost.ensures.reads.reads.keeps.shape c.requires.well.labeled.sealed
 
 pub returns-in_err-lost-clause-leaves : goal.returns-in_err-lost-clause-leaves
 returns-in_err-lost-clause-leaves g c =
@@ -139,7 +140,7 @@ returns-in_err-moved-in-Found-clause-leaves g c =
     moved_leaves g.S.InPhase g.R.Rack a b c.requires.well c.requires.loose
     (has_moved g.S.InPhase g.R.Rack a b (record { phase_is = refl; pending = refl; homes = refl; copies = refl; in_use = refl }) e.levels c.requires.well
     (written_run g.S.InPhase g.R.Rack a mid c.move_within.new.store e.reads t.written)
-    (labels_run g.S.InPhase g.R.Rack a mid c.move_within.new.store c.move_within.new.label e.reads t.array t.label)
+    (labels_run g.S.InPhase g.R.Rack a mid c.move_within.new.store c.move_within.new.label e.reads t.array (t.label (line_of a)))
     (moved_both g.R.Rack a.store mid c.move_within.new.store e.reads t.array))
 
 pub returns-in-Tended-clause-leaves : goal.returns-in-Tended-clause-leaves
@@ -152,5 +153,5 @@ returns-in-Tended-clause-leaves g c =
     moved_leaves g.S.InPhase g.R.Rack a b c.requires.well c.requires.loose
     (has_moved g.S.InPhase g.R.Rack a b (record { phase_is = refl; pending = refl; homes = refl; copies = refl; in_use = refl }) e.levels c.requires.well
     (written_run g.S.InPhase g.R.Rack a mid c.move_within.new.store e.reads t.written)
-    (labels_run g.S.InPhase g.R.Rack a mid c.move_within.new.store c.move_within.new.label e.reads t.array t.label)
+    (labels_run g.S.InPhase g.R.Rack a mid c.move_within.new.store c.move_within.new.label e.reads t.array (t.label (line_of a)))
     (moved_both g.R.Rack a.store mid c.move_within.new.store e.reads t.array))

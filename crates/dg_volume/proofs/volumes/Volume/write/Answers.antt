@@ -3,7 +3,7 @@ use Rattle.dg_model.specs.Marks.{with_mark}
 use Rattle.dg_model.specs.States.{has_lost}
 use Rattle.dg_model.specs.declared.shapes.Shape.{Shape}
 use Rattle.dg_volume.proofs.WriteSteps.{HasFollowed, HasStored, labels_followed, lost_before, lost_now, past_end, written_broken, written_to, written_whole}
-use Rattle.dg_volume.specs.Volumes.{loose_phase, members_of, shape_of, worn_phase}
+use Rattle.dg_volume.specs.Volumes.{line_of, loose_phase, members_of, shape_of, worn_phase}
 use Rattle.dg_volume.specs.declared.phases.Loose.{Loose}
 use Rattle.dg_volume.specs.declared.phases.Worn.{Worn}
 use Rattle.dg_volume.specs.declared.volumes.Volume.{Volume}
@@ -25,7 +25,7 @@ returns-in-AllLost g c =
       most = k.most;
       beside = record { phase_is = refl; pending = refl; homes = refl; copies = refl; in_use = refl };
       levels = refl;
-      labels = k.label;
+      labels = k.label (line_of a);
     })
 
 pub returns-then-branch : goal.returns-then-branch
@@ -67,7 +67,7 @@ returns-then-branch g c =
     written_to g.S.InPhase loose_phase g.R.Rack a c.args.block c.args.buf.now c.write_opened.new.store b c.requires.well refl
     (written_whole g.S.InPhase loose_phase g.R.Rack a c.args.block c.args.buf.now c.write_opened.new.store c.in-Some.inference c.follow.new.inference b c.requires.well stored
     f.levels refl (c.new-copies.ensures ∙ c.new.ensures.items)
-    (record { boundaries = c.uncut.ensures.boundaries; live = c.uncut.ensures.live; cut = c.uncut.ensures.cut }) (rw c.in-Some.is at c.into_inference.ensures.kept) refl refl followed (labels_followed g.R.Rack a.store c.write_opened.new.store b.store a.label c.write_opened.new.label k.label f.reads))
+    (record { boundaries = c.uncut.ensures.boundaries; long = c.uncut.ensures.long; live = c.uncut.ensures.live; cut = c.uncut.ensures.cut }) (rw c.in-Some.is at c.into_inference.ensures.kept) refl refl followed (labels_followed g.R.Rack (line_of a) a.store c.write_opened.new.store b.store a.label c.write_opened.new.label (k.label (line_of a)) f.reads))
 
 pub returns : goal.returns
 returns g c =
@@ -101,8 +101,8 @@ returns g c =
     written_to g.S.InPhase worn_phase g.R.Rack a c.args.block c.args.buf.now c.write_opened.new.store b c.requires.well refl
     (written_broken g.S.InPhase worn_phase g.R.Rack a c.args.block c.args.buf.now c.write_opened.new.store c.in-Some.inference b c.requires.well stored
     f.levels refl (c.new-copies.ensures ∙ c.new.ensures.items)
-    (record { boundaries = c.uncut.ensures.boundaries; live = c.uncut.ensures.live; cut = c.uncut.ensures.cut }) (rw c.in-Some.is at c.into_inference.ensures.kept) refl refl
-    (c.worn_marks.ensures ∙ ap (λ xs. with_mark xs c.args.block) (f.kept c.if-branch.false)) (f.lost c.if-branch.false) (labels_followed g.R.Rack a.store c.write_opened.new.store b.store a.label c.write_opened.new.label k.label f.reads))
+    (record { boundaries = c.uncut.ensures.boundaries; long = c.uncut.ensures.long; live = c.uncut.ensures.live; cut = c.uncut.ensures.cut }) (rw c.in-Some.is at c.into_inference.ensures.kept) refl refl
+    (c.worn_marks.ensures ∙ ap (λ xs. with_mark xs c.args.block) (f.kept c.if-branch.false)) (f.lost c.if-branch.false) (labels_followed g.R.Rack (line_of a) a.store c.write_opened.new.store b.store a.label c.write_opened.new.label (k.label (line_of a)) f.reads))
 
 pub returns-then-block-shape : goal.returns-then-block-shape
 returns-then-block-shape g c =

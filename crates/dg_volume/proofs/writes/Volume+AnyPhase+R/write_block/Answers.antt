@@ -6,7 +6,7 @@ use Rattle.dg_model.specs.States.{has_lost}
 use Rattle.dg_model.specs.Tables.{Table}
 use Rattle.dg_model.specs.declared.shapes.Shape.{Shape}
 use Rattle.dg_volume.proofs.WriteSteps.{HasFollowed, HasStored, labels_followed, loosened_leaves, lost_before, lost_now, past_end, uncut_in_use, written_broken, written_to, written_whole}
-use Rattle.dg_volume.specs.Volumes.{any_phase, members_of, shape_of, table_of}
+use Rattle.dg_volume.specs.Volumes.{any_phase, line_of, members_of, shape_of, table_of}
 use Rattle.dg_volume.specs.declared.phases.AnyPhase.{AnyPhase}
 use Rattle.dg_volume.specs.declared.phases.AnyPhase.TheVariants.{Loose}
 use Rattle.dg_volume.specs.declared.volumes.Volume.{Volume}
@@ -29,7 +29,7 @@ returns-in-AllLost-clause-steps g c =
       most = k.most;
       beside = record { phase_is = refl; pending = refl; homes = refl; copies = refl; in_use = refl };
       levels = refl;
-      labels = k.label;
+      labels = k.label (line_of a);
     })
 
 pub returns-then-whole-clause-steps : goal.returns-then-whole-clause-steps
@@ -68,7 +68,7 @@ returns-then-whole-clause-steps g c =
     written_to any_phase any_phase g.R.Rack a c.args.block c.args.buf.now c.write_opened.new.store b c.requires.well refl
     (written_whole any_phase any_phase g.R.Rack a c.args.block c.args.buf.now c.write_opened.new.store c.in-Some.inference c.follow-followed.new.inference b c.requires.well stored
     f.levels refl (c.new-3.ensures ∙ c.new-2.ensures.items)
-    (record { boundaries = c.uncut.ensures.boundaries; live = c.uncut.ensures.live; cut = c.uncut.ensures.cut }) (rw c.in-Some.is at c.take_inference.ensures.kept) refl refl followed (labels_followed g.R.Rack a.store c.write_opened.new.store b.store a.label c.write_opened.new.label k.label f.reads))
+    (record { boundaries = c.uncut.ensures.boundaries; long = c.uncut.ensures.long; live = c.uncut.ensures.live; cut = c.uncut.ensures.cut }) (rw c.in-Some.is at c.take_inference.ensures.kept) refl refl followed (labels_followed g.R.Rack (line_of a) a.store c.write_opened.new.store b.store a.label c.write_opened.new.label (k.label (line_of a)) f.reads))
 
 pub returns-clause-steps : goal.returns-clause-steps
 returns-clause-steps g c =
@@ -100,8 +100,8 @@ returns-clause-steps g c =
     written_to any_phase any_phase g.R.Rack a c.args.block c.args.buf.now c.write_opened.new.store b c.requires.well refl
     (written_broken any_phase any_phase g.R.Rack a c.args.block c.args.buf.now c.write_opened.new.store c.in-Some.inference b c.requires.well stored
     f.levels refl (c.new-3.ensures ∙ c.new-2.ensures.items)
-    (record { boundaries = c.uncut.ensures.boundaries; live = c.uncut.ensures.live; cut = c.uncut.ensures.cut }) (rw c.in-Some.is at c.take_inference.ensures.kept) c.take_inference.ensures.left c.take_inference.ensures.left_phase
-    (c.worn_marks.ensures ∙ ap (λ xs. with_mark xs c.args.block) (f.kept c.if-whole.false)) (f.lost c.if-whole.false) (labels_followed g.R.Rack a.store c.write_opened.new.store b.store a.label c.write_opened.new.label k.label f.reads))
+    (record { boundaries = c.uncut.ensures.boundaries; long = c.uncut.ensures.long; live = c.uncut.ensures.live; cut = c.uncut.ensures.cut }) (rw c.in-Some.is at c.take_inference.ensures.kept) c.take_inference.ensures.left c.take_inference.ensures.left_phase
+    (c.worn_marks.ensures ∙ ap (λ xs. with_mark xs c.args.block) (f.kept c.if-whole.false)) (f.lost c.if-whole.false) (labels_followed g.R.Rack (line_of a) a.store c.write_opened.new.store b.store a.label c.write_opened.new.label (k.label (line_of a)) f.reads))
 
 pub returns-then-whole-clause-leaves : goal.returns-then-whole-clause-leaves
 returns-then-whole-clause-leaves g c = let steps = returns-then-whole-clause-steps g c in steps.leaves
@@ -128,9 +128,9 @@ returns-in_default-followed-clause-leaves g c =
     let sited = subst (λ (t : Table). IsSited (table_of a) c.args.block t) (sym f.reads.table) stored.sited in
     loosened_leaves any_phase any_phase g.R.Rack a c.write_opened.new.store c.in-Some.inference c.follow-followed.new.inference b c.requires.well
     (uncut_in_use a b c.args.block (f.reads.keeps.shape ∙ k.falls.stays.shape) within sited
-    (record { boundaries = c.uncut.ensures.boundaries; live = c.uncut.ensures.live; cut = c.uncut.ensures.cut }) c.requires.well.in_use) k.falls f.sound f.reads f.levels refl
+    (record { boundaries = c.uncut.ensures.boundaries; long = c.uncut.ensures.long; live = c.uncut.ensures.live; cut = c.uncut.ensures.cut }) c.requires.well.in_use) c.uncut.ensures.boundaries c.uncut.ensures.long k.falls f.sound f.reads f.levels refl
     (c.new-3.ensures ∙ c.new-2.ensures.items) (rw c.in-Some.is at c.take_inference.ensures.kept) refl refl f.size f.room
-    (labels_followed g.R.Rack a.store c.write_opened.new.store b.store a.label c.write_opened.new.label k.label f.reads)
+    (labels_followed g.R.Rack (line_of a) a.store c.write_opened.new.store b.store a.label c.write_opened.new.label (k.label (line_of a)) f.reads)
 
 pub returns-then-block-shape-clause-leaves : goal.returns-then-block-shape-clause-leaves
 returns-then-block-shape-clause-leaves g c = leaves_none any_phase g.R.Rack c.args.self.now c.requires.well
