@@ -21,6 +21,7 @@ use Rattle.dg_model.specs.declared.replies.Reply.{Reply}
 use Rattle.dg_model.specs.declared.shapes.Shape.{Shape}
 use Rattle.dg_trace.specs.Traces.{write_of, writes_of}
 use Rattle.dg_volume.specs.Origins.{Always}
+use Rattle.dg_volume.specs.Origins.Origin.{nothing}
 use Rattle.dg_volume.specs.HeldLaws.{own_still, own_then}
 use Rattle.dg_volume.specs.Volumes.{IsWell, Known, Leaves, StandsIn, StepsBy, any_phase, rack_of, shape_of, table_of}
 use Rattle.dg_volume.specs.declared.phases.AnyPhase.{AnyPhase}
@@ -75,7 +76,7 @@ module _ {R : Type 0} (rack : Ghosts R) where
 
   -- a step, whatever it changed of what was read last
   pub steps_of : (touch : List ℕ → List ℕ) (a b : Volume AnyPhase R) (event : Event) (reply : Reply) → StepsBy any_phase any_phase rack touch a event reply b → Steps rack a event reply b
-  steps_of touch a b event reply steps state st = let one = steps None state st in (one.0, one.1, one.2)
+  steps_of touch a b event reply steps state st = let one = steps nothing state st in (one.0, one.1, one.2)
 
   -- ---- chains
 

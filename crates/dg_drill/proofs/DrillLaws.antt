@@ -29,6 +29,7 @@ use Rattle.dg_model.specs.declared.shapes.Shape.{Shape}
 use Rattle.dg_model.specs.declared.sites.Site.{Site}
 use Rattle.dg_trace.specs.Traces.{writes_of}
 use Rattle.dg_volume.specs.Origins.{Always}
+use Rattle.dg_volume.specs.Origins.Origin.{nothing}
 use Rattle.dg_volume.specs.HeldLaws.{holds_all}
 use Rattle.dg_volume.specs.Volumes.{IsBlankVolume, IsSame, Known, Leaves, StandsIn, StepsTo, any_phase, loose_phase, rack_of, shape_of}
 use Rattle.dg_volume.specs.declared.phases.AnyPhase.{AnyPhase}
@@ -59,8 +60,8 @@ module _ {R : Type 0} (rack : Ghosts R) where
   pub lost_both : (a b c : Volume AnyPhase R) (s : ℕ) (one other : Reply) → Leaves any_phase any_phase rack b c → StepsTo any_phase any_phase rack a (Fail s 0) one b
       → StepsTo any_phase any_phase rack b (Fail s 1) other c → (state : State) → StandsIn any_phase rack Always a state → HasLost rack state s c
   lost_both a b c s one other leaves first second state stands =
-      let half = first None state stands in
-      let whole = second None half.0 half.1 in
+      let half = first nothing state stands in
+      let whole = second nothing half.0 half.1 in
       record {
         losses = one ∷ other ∷ [];
         next = whole.0;
@@ -92,7 +93,7 @@ module _ {R : Type 0} (rack : Ghosts R) (before : R) (loose : Volume Loose R) (v
   table_is = ap (λ (s : State). s.table) blank.blank.is
 
   written : HasWritten rack blank.state (writes_of g.fsize image (trace_of Late g image)) [] more v1
-  written = writes blank.state (same.stands None blank.state blank.stands) (blank_unwritten blank.state (trace_of Late g image) table_is)
+  written = writes blank.state (same.stands nothing blank.state blank.stands) (blank_unwritten blank.state (trace_of Late g image) table_is)
 
   lost : HasLost rack (settles None written.next written.led.stands).0 s v3
   lost = loses (settles None written.next written.led.stands).0 (settles None written.next written.led.stands).1

@@ -22,6 +22,7 @@ use Rattle.dg_run.specs.Replays.{BrokeOff, CutRefusal, CutReply, IsCut, RanOut, 
 use Rattle.dg_run.specs.Steps.{GoesOn, IsBlankArray, Known, VolumeRunsTo, rack_of, shape_of}
 use Rattle.dg_run.proofs.Runs.{volume_runs}
 use Rattle.dg_volume.specs.Origins.{Always}
+use Rattle.dg_volume.specs.Origins.Origin.{nothing}
 use Rattle.dg_run.proofs.ToldSteps.{Told-each, Told-refl, Told-then}
 use Rattle.dg_run.proofs.Whole.{cut_input, ran_nothing, ran_of, rest_told, same_shape, stops_text, took_first}
 
@@ -148,7 +149,7 @@ module _ {R : Type 0} (ghosts : Ghosts R) (shape : Shape) (first : ℕ) (rack : 
   lines_wanted : (text left rest taken given : Option (List ℕ)) → Told (Begins None (MakeArray shape)) text left → LinesWanted ghosts (reply_line Done) (shape_of a) first left rest taken given a b
       → RanOutBetween (ghosts.counts rack) (ghosts.tells (rack_of b)) text rest taken given
   lines_wanted text left rest taken given line lines =
-      let W = lines.runs None blank.state blank.stands in
+      let W = lines.runs nothing blank.state blank.stands in
       let final = W.0 in
       record {
         events = MakeArray shape ∷ lines.events;
@@ -166,7 +167,7 @@ module _ {R : Type 0} (ghosts : Ghosts R) (shape : Shape) (first : ℕ) (rack : 
   lines_listed text left rest taken given line lines =
       let events = lines.events ++ Tree ∷ [] in
       let replies = lines.replies ++ Nodes (lines.entries ++ lines.others) ∷ [] in
-      let W = lines.runs None blank.state blank.stands in
+      let W = lines.runs nothing blank.state blank.stands in
       let final = W.0 in
       record {
         events = MakeArray shape ∷ lines.events;

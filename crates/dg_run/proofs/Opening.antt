@@ -52,25 +52,25 @@ module _ {R : Type 0} (rack : Ghosts R) (before : R) (a b : Array R) (opened : H
 
   module _ (V : List (List ℕ)) (size : length V ≡ opened.saved.table.shape.n) where
     -- what its members may have held
-    abbrev was : Origin
+    abbrev was : Origin R
     was = origin rack before a.volume b.volume a.hot taken given opened goes V
 
     -- where the blocks are known at the end, they are known of the array
-    told_end : IsKnown told_now (met_by met) (rack.counts (rack_of a)) from V → Known (WasHeld was) rack b
+    told_end : IsKnown told_now (met_by met) (rack.counts (rack_of a)) from V → Known (WasHeld rack was) rack b
     told_end = known_now rack before a.volume b.volume a.hot taken given opened goes V
 
     -- the state that the array is in, once it was opened
     abbrev at : AtFirst rack before a.volume b.volume a.hot taken given opened goes V
     at = at_first rack before a.volume b.volume a.hot taken given opened goes V
 
-    stands : StandsIn rack (WasHeld was) a at.state
+    stands : StandsIn rack (WasHeld rack was) a at.state
     stands = record {
       volume = at.stands;
       recent = at.recent;
       sized = ap length at.blocks ∙ size ∙ ap (λ (t : Table). t.shape.n) (sym opened.table) ∙ ap (λ (s : State). s.table.shape.n) (sym at.stands.is);
     }
 
-    resumed_to : (events : List Event) (replies : List Reply) (final : State) → Run (Known (WasHeld was) rack b) at.state events replies final
+    resumed_to : (events : List Event) (replies : List Reply) (final : State) → Run (Known (WasHeld rack was) rack b) at.state events replies final
         → Resumed told_now met (rack.counts (rack_of a)) from V events replies
     resumed_to events replies final run = record {
       state = at.state;
@@ -89,7 +89,7 @@ module _ {R : Type 0} (rack : Ghosts R) (before : R) (a b : Array R) (opened : H
     reached events replies runs =
         let one = runs was at.state stands in
         let final = one.0 in
-        let in_end : volumes.StandsIn any_phase rack (WasHeld was) b.volume final = one.1 in
+        let in_end : volumes.StandsIn any_phase rack (WasHeld rack was) b.volume final = one.1 in
         record {
           resumed = resumed_to events replies final one.2;
           holds = λ told. holds_all rack b.volume any_phase final in_end (told_end told);

@@ -35,7 +35,7 @@ module _ {R : Type 0} (rack : Ghosts R) where
       let one = runs origin state st in
       let two = steps origin one.0 one.1 in
       let run = run_less (told_before rack b c shape tells) state es rs one.0 one.2 in
-      (two.0, two.1, run_push (Known (WasHeld origin) rack c) state es rs one.0 e r two.0 run two.2)
+      (two.0, two.1, run_push (Known (WasHeld rack origin) rack c) state es rs one.0 e r two.0 run two.2)
 
   -- the same where nothing is said of the inodes that were read last
   pub volume_runs_more : (a b c : Array R) (es : List Event) (rs : List Reply) (e : Event) (r : Reply) → RunsTo rack a es rs b → VolumeStepsTo rack b e r c → shape_of c ≡ shape_of b
@@ -44,7 +44,7 @@ module _ {R : Type 0} (rack : Ghosts R) where
       let one = runs origin state st in
       let two = steps origin one.0 one.1 in
       let run = run_less (told_before rack b c shape tells) state es rs one.0 one.2 in
-      (two.0, two.1, run_push (Known (WasHeld origin) rack c) state es rs one.0 e r two.0 run two.2)
+      (two.0, two.1, run_push (Known (WasHeld rack origin) rack c) state es rs one.0 e r two.0 run two.2)
 
   pub volume_runs : (a b : Array R) (es : List Event) (rs : List Reply) → RunsTo rack a es rs b → VolumeRunsTo rack a es rs b
   volume_runs a b es rs runs origin state st =

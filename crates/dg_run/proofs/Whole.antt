@@ -32,6 +32,7 @@ use Rattle.dg_run.specs.Arrays.{AllAnswered, AnsweredTo, ArrayReplayed, ArraySto
 use Rattle.dg_run.proofs.Inputs.{All-head, All-right, no_line}
 use Rattle.dg_run.proofs.Runs.{volume_runs}
 use Rattle.dg_volume.specs.Origins.{Always}
+use Rattle.dg_volume.specs.Origins.Origin.{nothing}
 use Rattle.dg_volume.specs.HeldLaws.{holds_all}
 use Rattle.dg_volume.specs.Volumes.{any_phase}
 use Rattle.dg_volume.specs.Volumes as volumes
@@ -73,7 +74,7 @@ module _ {R : Type 0} (ghosts : Ghosts R) (shape : Shape) (first : ℕ) (rack : 
   pub ran_of : (events : List Event) (replies : List Reply) → VolumeRunsTo ghosts a events replies b → All (IsInPlace (Some (shape_of a))) events → first + length (input_of events) ≤ 2 ^ 40
       → Ran (ghosts.counts rack) (ghosts.counts (rack_of b)) (ghosts.bytes rack) (ghosts.bytes (rack_of b)) (ghosts.tells (rack_of b)) (MakeArray shape ∷ events) (Done ∷ replies)
   ran_of events replies runs placed budget =
-      let W = runs None blank.state blank.stands in
+      let W = runs nothing blank.state blank.stands in
       let final = W.0 in
       let stands : volumes.StandsIn any_phase ghosts Always b.volume final = W.1 in
       let known : TellsBoundaries (ghosts.tells (rack_of b)) final → Known Always ghosts b =

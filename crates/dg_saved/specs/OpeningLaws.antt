@@ -18,6 +18,7 @@ use Rattle.dg_saved.specs.Saved.{FoundNoState, FoundUnclean, HasSource, IsKnown,
 use Rattle.dg_volume.specs.Opens.{HasOpened}
 use Rattle.dg_volume.specs.Opens as openings
 use Rattle.dg_volume.specs.Origins.{Origin, WasHeld}
+use Rattle.dg_volume.specs.Origins.Origin.{held}
 use Rattle.dg_volume.specs.Volumes.{Known, Leaves, StandsIn, Tells, any_phase, members_of, rack_of, shape_of, table_of}
 use Rattle.dg_volume.specs.declared.phases.AnyPhase.{AnyPhase}
 use Rattle.dg_volume.specs.declared.volumes.Volume.{Volume}
@@ -169,22 +170,22 @@ module _ {R : Type 0} (rack : Ghosts R) (before : R) (volume new : Volume AnyPha
   known_volume told q below = leaves.told_before q (known told q (subst (λ (s : Shape). q / 2 < s.b) (sym leaves.shape) below))
 
   -- what its members may have held
-  abbrev pub origin : List (List ℕ) → Origin
-  origin V = Some (record { table = table_of volume; members = opened.first; bytes = rack.bytes before; blocks = V })
+  abbrev pub origin : List (List ℕ) → Origin R
+  origin V = held (record { table = table_of volume; members = opened.first; bytes = rack.bytes before; blocks = V })
 
   -- where the blocks are known in the end, they are known of the volume now, and when it was opened
-  pub known_now : (V : List (List ℕ)) → IsKnown told_now facts (rack.counts (rack_of volume)) source V → Known (WasHeld (origin V)) rack new
+  pub known_now : (V : List (List ℕ)) → IsKnown told_now facts (rack.counts (rack_of volume)) source V → Known (WasHeld rack (origin V)) rack new
   known_now V k = (known (k.0), subst (λ (t : Table). StandsFor t opened.first (rack.bytes before) V) (sym opened.table) (k.1))
 
-  known_first : (V : List (List ℕ)) → IsKnown told_now facts (rack.counts (rack_of volume)) source V → Known (WasHeld (origin V)) rack volume
+  known_first : (V : List (List ℕ)) → IsKnown told_now facts (rack.counts (rack_of volume)) source V → Known (WasHeld rack (origin V)) rack volume
   known_first V k = (known_volume (k.0), subst (λ (t : Table). StandsFor t opened.first (rack.bytes before) V) (sym opened.table) (k.1))
 
   -- the state in which it was opened, with these blocks
   pub record AtFirst (V : List (List ℕ)) : Type 0 where
     pub state : State
     pub blocks : state.blocks ≡ V
-    pub opens : Opens (Known (WasHeld (origin V)) rack volume) opened.taken None (rack.counts before) state
-    pub stands : StandsIn any_phase rack (WasHeld (origin V)) volume state
+    pub opens : Opens (Known (WasHeld rack (origin V)) rack volume) opened.taken None (rack.counts before) state
+    pub stands : StandsIn any_phase rack (WasHeld rack (origin V)) volume state
     pub recent : state.recent ≡ hot
 
   module _ (V : List (List ℕ)) where

@@ -260,11 +260,11 @@ module _ {S R : Type 0} (phase : phases.Ghosts S) (rack : Ghosts R) where
     }
 
   hot_steps : (a b : Volume S R) (hot : List ℕ) (event : Event) (reply : Reply)
-      → ((origin : Origin) (rest : State) (V : List (List ℕ)) → StandsUnder rack a rest.label → rest.recent ≡ hot → (Known (WasHeld origin) rack a → StandsFor phase rack a V)
-      → StepsAt phase rack (WasHeld origin) (λ recent. recent) a rest V event reply b)
+      → ((origin : Origin R) (rest : State) (V : List (List ℕ)) → StandsUnder rack a rest.label → rest.recent ≡ hot → (Known (WasHeld rack origin) rack a → StandsFor phase rack a V)
+      → StepsAt phase rack (WasHeld rack origin) (λ recent. recent) a rest V event reply b)
       → StepsHot phase phase rack hot a event reply b
   hot_steps a b hot event reply go origin state st recent =
-      subst (λ (s : State). (next : State) × StandsIn phase rack (WasHeld origin) b next × Step (Known (WasHeld origin) rack b) s event reply next × (next.recent ≡ s.recent)) (sym st.is)
+      subst (λ (s : State). (next : State) × StandsIn phase rack (WasHeld rack origin) b next × Step (Known (WasHeld rack origin) rack b) s event reply next × (next.recent ≡ s.recent)) (sym st.is)
       (go origin state state.blocks st.label recent st.holds)
 
   pub diffuse_steps : {E : Type 0} (a : Volume S R) (kept : KeptInference) (wants : List (Option Want)) (hot : List ℕ) (result : Result DiffuseAnswer E) (b : Volume S R)
@@ -276,7 +276,7 @@ module _ {S R : Type 0} (phase : phases.Ghosts S) (rack : Ghosts R) where
       h.settled,
       h.whole,
       h.live n refl,
-      subst (λ (count : ℕ). Spreads (Known (WasHeld origin) rack b) (state_of phase rack a rest V) count n (next_state a kept wants hot (Ok (Diffused n)) b h rest V)) (ap length (sym recent))
+      subst (λ (count : ℕ). Spreads (Known (WasHeld rack origin) rack b) (state_of phase rack a rest V) count n (next_state a kept wants hot (Ok (Diffused n)) b h rest V)) (ap length (sym recent))
           (spreads a kept wants hot (Ok (Diffused n)) b h (length hot) n (h.diffused n refl) rest V label recent holds),
     ),
     refl,

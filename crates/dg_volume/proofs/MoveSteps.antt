@@ -336,7 +336,7 @@ module _ {S R : Type 0} (phase : phases.Ghosts S) (rack : Ghosts R) where
     (
       ready.whole,
       not_settled a ready,
-      is_cramped (Known (WasHeld origin) rack b) a b.store kept rest V keeps (λ known. known.0) (held_before a b V h holds) bad found,
+      is_cramped (Known (WasHeld rack origin) rack b) a b.store kept rest V keeps (λ known. known.0) (held_before a b V h holds) bad found,
       record { stays = reads_stay phase rack a b rest V label h; unwritten = h.reads.writes },
     ),
     refl,
@@ -380,7 +380,7 @@ module _ {S R : Type 0} (phase : phases.Ghosts S) (rack : Ghosts R) where
       ready.whole,
       not_settled a ready,
       sound_in a b kept V keeps check (held_before a b V h holds),
-      is_cramped (Known (WasHeld origin) rack b) a b.store kept rest V keeps (λ known. known.0) (held_before a b V h holds) bad found,
+      is_cramped (Known (WasHeld rack origin) rack b) a b.store kept rest V keeps (λ known. known.0) (held_before a b V h holds) bad found,
       record { stays = reads_stay phase rack a b rest V label h; unwritten = h.reads.writes },
     ),
     refl,

@@ -459,11 +459,11 @@ module _ {S R : Type 0} (phase : phases.Ghosts S) (rack : Ghosts R) where
 
   -- a step of each state that has a block for each of the array's
   sized : (a b : Volume S R) (event : Event) (reply : Reply)
-      → ((origin : Origin) (rest : State) (V : List (List ℕ)) → StandsUnder rack a rest.label → length V ≡ (shape_of a).n
-      → (Known (WasHeld origin) rack a → StandsFor phase rack a V) → StepsAt phase rack (WasHeld origin) (λ recent. recent) a rest V event reply b)
+      → ((origin : Origin R) (rest : State) (V : List (List ℕ)) → StandsUnder rack a rest.label → length V ≡ (shape_of a).n
+      → (Known (WasHeld rack origin) rack a → StandsFor phase rack a V) → StepsAt phase rack (WasHeld rack origin) (λ recent. recent) a rest V event reply b)
       → StepsSized phase phase rack a event reply b
   sized a b event reply go origin state st size =
-      subst (λ (s : State). (next : State) × StandsIn phase rack (WasHeld origin) b next × Step (Known (WasHeld origin) rack b) s event reply next × (next.recent ≡ s.recent)) (sym st.is)
+      subst (λ (s : State). (next : State) × StandsIn phase rack (WasHeld rack origin) b next × Step (Known (WasHeld rack origin) rack b) s event reply next × (next.recent ≡ s.recent)) (sym st.is)
       (go origin state state.blocks st.label size st.holds)
 
   -- nothing was done
@@ -620,7 +620,7 @@ module _ {S R : Type 0} (phase : phases.Ghosts S) (rack : Ghosts R) where
       inr (
         λ was. filling_live (members_of a) s h.was.q h.was.have h.sound.paired h.was.refilled (lost_of a (members_of a) h.number s h.place was),
         lost_in b (members_of b) h.number s (place_kept a b h.number s (keeps_opened a b h.opened) h.place) lost,
-        subst (λ (x : ℕ). BreaksOff (Known (WasHeld origin) rack b) (state_of phase rack a rest V) x (kept_state phase rack a b (keeps_opened a b h.opened) rest V))
+        subst (λ (x : ℕ). BreaksOff (Known (WasHeld rack origin) rack b) (state_of phase rack a rest V) x (kept_state phase rack a b (keeps_opened a b h.opened) rest V))
             (sym h.place.is) (breaks_at_once a b s h.sound h.opened rest V label),
       ),
     ),
@@ -635,7 +635,7 @@ module _ {S R : Type 0} (phase : phases.Ghosts S) (rack : Ghosts R) where
       h.place.number,
       λ lost. false≢true (sym live ∙ lost_of b (members_of b) h.number s (place_kept a b h.number s (keeps_opened a b h.opened) h.place) lost),
       record { q = h.was.q; have = h.was.have; filling = (h.was.refilled.0 ∙ (sym h.place.is), h.was.refilled.1); out = fell.out; rose = rose },
-      subst (λ (x : ℕ). BreaksOff (Known (WasHeld origin) rack b) (state_of phase rack a rest V) x (kept_state phase rack a b (keeps_opened a b h.opened) rest V))
+      subst (λ (x : ℕ). BreaksOff (Known (WasHeld rack origin) rack b) (state_of phase rack a rest V) x (kept_state phase rack a b (keeps_opened a b h.opened) rest V))
           (sym h.place.is) (breaks_at_once a b s h.sound h.opened rest V label),
     ),
     refl,
@@ -671,7 +671,7 @@ module _ {S R : Type 0} (phase : phases.Ghosts S) (rack : Ghosts R) where
         (
           h.place.number,
           λ lost. copied_not_lost d l s (sym (h.call.lost.1 (lost_of b (members_of b) h.number s (place_on a b h.number s h.beside.in_use (h.call.left.shape ∙ h.opening.stays.shape) h.place) lost))),
-          subst (λ (x : ℕ). Rebuilds (Known (WasHeld origin) rack b) (state_of phase rack a rest V) x n d l (next a m marks s after b all passed rest V label size holds)) (sym h.place.is) (record {
+          subst (λ (x : ℕ). Rebuilds (Known (WasHeld rack origin) rack b) (state_of phase rack a rest V) x n d l (next a m marks s after b all passed rest V label size holds)) (sym h.place.is) (record {
             q = k.q;
             low = k.low;
             high = k.high;
@@ -726,7 +726,7 @@ module _ {S R : Type 0} (phase : phases.Ghosts S) (rack : Ghosts R) where
           inr (
             λ lost. live_before rack a.store m s h.opening is (lost_of a (members_of a) h.number s h.place lost),
             lost_in b (members_of b) h.number s (place_on a b h.number s h.beside.in_use (h.call.left.shape ∙ h.opening.stays.shape) h.place) (h.call.lost.0 (ap Lost e)),
-            subst (λ (x : ℕ). BreaksOff (Known (WasHeld origin) rack b) (state_of phase rack a rest V) x (next a m marks s after b all (passed_broken a m s marks before after b h.none all.opening k) rest V label size holds))
+            subst (λ (x : ℕ). BreaksOff (Known (WasHeld rack origin) rack b) (state_of phase rack a rest V) x (next a m marks s after b all (passed_broken a m s marks before after b h.none all.opening k) rest V label size holds))
                 (sym h.place.is) (breaks_off a m s marks before after b h.none all h.call.left k rest V label size holds),
           ),
         ),
@@ -775,7 +775,7 @@ module _ {S R : Type 0} (phase : phases.Ghosts S) (rack : Ghosts R) where
             rose = rose_before ((rack.counts (rack_of a)).faults fell.q) ((rack.counts (stores.rack_of m)).faults fell.q) ((rack.counts (rack_of b)).faults fell.q)
                 (h.opening.stays.stays.rise.faults fell.q) fell.rose;
           },
-          subst (λ (x : ℕ). BreaksOff (Known (WasHeld origin) rack b) (state_of phase rack a rest V) x (next a m marks s after b all (passed_broken a m s marks before after b h.none all.opening k) rest V label size holds))
+          subst (λ (x : ℕ). BreaksOff (Known (WasHeld rack origin) rack b) (state_of phase rack a rest V) x (next a m marks s after b all (passed_broken a m s marks before after b h.none all.opening k) rest V label size holds))
               (sym h.place.is) (breaks_off a m s marks before after b h.none all h.call.left k rest V label size holds),
         ),
         refl,

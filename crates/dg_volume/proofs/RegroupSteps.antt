@@ -48,7 +48,7 @@ use Rattle.dg_volume.specs.Left.{marked_too}
 use Rattle.dg_volume.specs.Origins.{WasHeld}
 use Rattle.dg_volume.specs.Phases.{kept_in, phase_in}
 use Rattle.dg_volume.specs.Planned.{HasReadArray}
-use Rattle.dg_volume.specs.Regroups.{AreRemains, GoesOn, HasTooFew, IsPhaseLeft, IsRegrouped, IsTakenOut, KeepsLeft, TakesOut, WasTold, gone_count, gone_of, lost_count}
+use Rattle.dg_volume.specs.Regroups.{AreRemains, GoesOn, HasTooFew, IsPhaseLeft, IsRegrouped, IsTakenOut, KeepsLeft, TakesOut, gone_count, gone_of, lost_count, told_in}
 use Rattle.dg_volume.specs.Settles.{GoesBy}
 use Rattle.dg_volume.specs.Volumes.{FitsArray, HasLabel, IsWell, Known, Leaves, StandsFor, StandsIn, StandsUnder, any_phase, cut_of, line_of, live_of, marks_by, marks_of, members_of, rack_of, reduced_of, shape_of, state_of, table_of}
 use Rattle.dg_volume.specs.declared.in_use.InUse.{InUse}
@@ -362,8 +362,12 @@ module _ {R : Type 0} (rack : Ghosts R) where
       pub held_f : (V : List (List ℕ)) → stores.StandsFor rack a.store V → stores.StandsFor rack f.store (left_blocks V)
       held_f V held = h.read.stands (left_blocks V) (held_b V held)
 
-      told_a : {P : Type 0} → Known (WasTold rack P m.store) rack f → Known P rack a
-      told_a told = told_before any_phase rack a m keeps_mid (told.1.tells, told.1.held)
+      -- something is so, and each member told its bytes
+      abbrev pub WasTold : Type 0 → Store R → Type 0
+      WasTold P store = P × TellsAll rack store
+
+      told_a : {P : Type 0} → Known (WasTold P m.store) rack f → Known P rack a
+      told_a told = told_before any_phase rack a m keeps_mid (told.1.1, told.1.0)
 
       -- ---- the states
 
@@ -430,7 +434,7 @@ module _ {R : Type 0} (rack : Ghosts R) where
             λ i. record (last_state rest V) { boundaries = bounds i; live = live i; cut = cut i; table = table i; homes = homes i; copies = copies i; phase = told i }
 
         regroups : {P : Type 0} → (rest : State) (V : List (List ℕ)) → StandsUnder rack a rest.label → (Known P rack a → StandsFor any_phase rack a V)
-            → Regroups (Known (WasTold rack P m.store) rack f) (state_of any_phase rack a rest V) (lost_count m) (gone_count m) (last_state rest V)
+            → Regroups (Known (WasTold P m.store) rack f) (state_of any_phase rack a rest V) (lost_count m) (gone_count m) (last_state rest V)
         regroups rest V label holds = record {
           mid = open_state a m h.unsealed rest V;
           opened =
@@ -449,7 +453,7 @@ module _ {R : Type 0} (rack : Ghosts R) where
         }
 
         last_in : {P : Type 0} → (rest : State) (V : List (List ℕ)) → StandsUnder rack a rest.label → (Known P rack a → StandsFor any_phase rack a V)
-            → StandsIn any_phase rack (WasTold rack P m.store) f (last_state rest V)
+            → StandsIn any_phase rack (WasTold P m.store) f (last_state rest V)
         last_in rest V label holds = record {
           is = refl;
           label = stands_f rest.label label;
@@ -480,8 +484,8 @@ module _ {R : Type 0} (rack : Ghosts R) where
         out = takes_out;
         given_is = h.given_is ∙ h.out.given_is ∙ h.unsealed.given_is;
         steps = λ origin state st.
-            subst (λ (s : State). (next : State) × StandsIn any_phase rack (WasTold rack (WasHeld origin) m.store) f next
-            × Step (Known (WasTold rack (WasHeld origin) m.store) rack f) s Regroup (Regrouped (lost_count m) (gone_count m)) next × (next.recent ≡ s.recent)) (sym st.is) (
+            subst (λ (s : State). (next : State) × StandsIn any_phase rack (WasHeld rack (told_in m.store origin)) f next
+            × Step (Known (WasHeld rack (told_in m.store origin)) rack f) s Regroup (Regrouped (lost_count m) (gone_count m)) next × (next.recent ≡ s.recent)) (sym st.is) (
               last_state state state.blocks,
               last_in phase state state.blocks st.label st.holds,
               (h.unsealed.lost, regroups phase state state.blocks st.label st.holds),

@@ -258,19 +258,19 @@ module _ {S R : Type 0} (phase : phases.Ghosts S) (rack : Ghosts R) where
         (next : State) × StandsIn phase rack P after next × Step (Known P rack after) (state_of phase rack a rest V) Save reply next × (next.recent ≡ rest.recent)
 
     by_state : (hot : List ℕ) (reply : Reply)
-        → ((origin : Origin) (rest : State) (V : List (List ℕ)) → StandsUnder rack a rest.label
-        → (Known (WasHeld origin) rack a → StandsFor phase rack a V) → rest.recent ≡ hot → Goes (WasHeld origin) rest V reply)
+        → ((origin : Origin R) (rest : State) (V : List (List ℕ)) → StandsUnder rack a rest.label
+        → (Known (WasHeld rack origin) rack a → StandsFor phase rack a V) → rest.recent ≡ hot → Goes (WasHeld rack origin) rest V reply)
         → StepsHot phase phase rack hot a Save reply after
     by_state hot reply goes origin state st recent =
-        subst (λ (s : State). (next : State) × StandsIn phase rack (WasHeld origin) after next × Step (Known (WasHeld origin) rack after) s Save reply next × (next.recent ≡ s.recent)) (sym st.is)
+        subst (λ (s : State). (next : State) × StandsIn phase rack (WasHeld rack origin) after next × Step (Known (WasHeld rack origin) rack after) s Save reply next × (next.recent ≡ s.recent)) (sym st.is)
         (goes origin state state.blocks st.label st.holds recent)
 
     saves : (hot body : List ℕ) (sequence : ℕ) → IsSound rack a.store → body ≡ body_of 2 (saved_by phase a hot) → CanBeSaved (saved_by phase a hot)
         → AnswersSave rack (line_of a) body a.store store a.label label (Saved sequence) → StepsHot phase phase rack hot a Save (SavedReply sequence) after
     saves hot body sequence sound says can answer = by_state hot (SavedReply sequence) goes
       where
-        goes : (origin : Origin) (rest : State) (V : List (List ℕ)) → StandsUnder rack a rest.label → (Known (WasHeld origin) rack a → StandsFor phase rack a V) → rest.recent ≡ hot
-            → Goes (WasHeld origin) rest V (SavedReply sequence)
+        goes : (origin : Origin R) (rest : State) (V : List (List ℕ)) → StandsUnder rack a rest.label → (Known (WasHeld rack origin) rack a → StandsFor phase rack a V) → rest.recent ≡ hot
+            → Goes (WasHeld rack origin) rest V (SavedReply sequence)
         goes origin rest V stands holds recent =
             let last : Option LastLabel = Some (saved_label store sequence body) in
             let said : body ≡ body_of 2 (saved_by phase a rest.recent) = says ∙ ap (λ (r : List ℕ). body_of 2 (saved_by phase a r)) (sym recent) in (
@@ -354,8 +354,8 @@ module _ {S R : Type 0} (phase : phases.Ghosts S) (rack : Ghosts R) where
         → StepsHot phase phase rack hot a Save (LostReply (boundary_at (live_of a) s)) after
     saves_none hot body s fits answer = by_state hot (LostReply (boundary_at (live_of a) s)) goes
       where
-        goes : (origin : Origin) (rest : State) (V : List (List ℕ)) → StandsUnder rack a rest.label → (Known (WasHeld origin) rack a → StandsFor phase rack a V) → rest.recent ≡ hot
-            → Goes (WasHeld origin) rest V (LostReply (boundary_at (live_of a) s))
+        goes : (origin : Origin R) (rest : State) (V : List (List ℕ)) → StandsUnder rack a rest.label → (Known (WasHeld rack origin) rack a → StandsFor phase rack a V) → rest.recent ≡ hot
+            → Goes (WasHeld rack origin) rest V (LostReply (boundary_at (live_of a) s))
         goes origin rest V stands holds recent =
             let last : Option LastLabel = option_map forgotten rest.label in (
               record (state_of phase rack after rest V) { label = last },

@@ -193,10 +193,10 @@ module _ {S T R : Type 0} (from : phases.Ghosts S) (to : phases.Ghosts T) (rack 
         let led = put.steps origin state state.blocks st.label st.holds in
         let next = state_of to rack (in_phase b phase) (labeled_so state led.0) state.blocks in
         let step =
-        subst (λ (x : State). Step (Known (WasHeld origin) rack b) (state_of from rack a state state.blocks) Settle SettledReply x) (settled_state state led.0 state.blocks) led.2 in (
+        subst (λ (x : State). Step (Known (WasHeld rack origin) rack b) (state_of from rack a state state.blocks) Settle SettledReply x) (settled_state state led.0 state.blocks) led.2 in (
           next,
           record { is = refl; label = led.1; holds = settled_stands state.blocks st.holds },
-          subst (λ (x : State). Step (Known (WasHeld origin) rack b) x Settle SettledReply next) (sym st.is) step,
+          subst (λ (x : State). Step (Known (WasHeld rack origin) rack b) x Settle SettledReply next) (sym st.is) step,
           refl,
         )
 

@@ -164,15 +164,15 @@ module _ {S R : Type 0} (phase : phases.Ghosts S) (rack : Ghosts R) where
 
   -- the same of all such states
   abbrev pub StepsFrom : Volume S R → Event → Reply → Volume S R → Type 0
-  StepsFrom a event reply b = (origin : Origin) (rest : State) (V : List (List ℕ)) → StandsUnder rack a rest.label
-      → (Known (WasHeld origin) rack a → StandsFor phase rack a V) → StepsAt (WasHeld origin) (λ recent. recent) a rest V event reply b
+  StepsFrom a event reply b = (origin : Origin R) (rest : State) (V : List (List ℕ)) → StandsUnder rack a rest.label
+      → (Known (WasHeld rack origin) rack a → StandsFor phase rack a V) → StepsAt (WasHeld rack origin) (λ recent. recent) a rest V event reply b
 
   pub steps_by : (touch : List ℕ → List ℕ) (a b : Volume S R) (event : Event) (reply : Reply)
-      → ((origin : Origin) (rest : State) (V : List (List ℕ)) → StandsUnder rack a rest.label
-      → (Known (WasHeld origin) rack a → StandsFor phase rack a V) → StepsAt (WasHeld origin) touch a rest V event reply b)
+      → ((origin : Origin R) (rest : State) (V : List (List ℕ)) → StandsUnder rack a rest.label
+      → (Known (WasHeld rack origin) rack a → StandsFor phase rack a V) → StepsAt (WasHeld rack origin) touch a rest V event reply b)
       → StepsBy phase phase rack touch a event reply b
   steps_by touch a b event reply h origin state st =
-      subst (λ (s : State). (next : State) × StandsIn phase rack (WasHeld origin) b next × Step (Known (WasHeld origin) rack b) s event reply next × (next.recent ≡ touch s.recent))
+      subst (λ (s : State). (next : State) × StandsIn phase rack (WasHeld rack origin) b next × Step (Known (WasHeld rack origin) rack b) s event reply next × (next.recent ≡ touch s.recent))
       (sym st.is) (h origin state state.blocks st.label st.holds)
 
   pub steps_from : (a b : Volume S R) (event : Event) (reply : Reply) → StepsFrom a event reply b → StepsTo phase phase rack a event reply b

@@ -423,7 +423,7 @@ module _ {S T R : Type 0} (from : phases.Ghosts S) (to : phases.Ghosts T) (rack 
     steps = λ bytes is origin state st.
         let wrote : HasWritten a b (padded (shape_of a).l bytes) m c = subst (λ (x : List ℕ). HasWritten a b x m c) is h in
         let W = slice_set state.blocks b (padded (shape_of a).l bytes) in
-        subst (λ (s : State). (next : State) × StandsIn to rack (WasHeld origin) c next × Step (Known (WasHeld origin) rack c) s (Write b bytes) Done next × (next.recent ≡ s.recent)) (sym st.is) (
+        subst (λ (s : State). (next : State) × StandsIn to rack (WasHeld rack origin) c next × Step (Known (WasHeld rack origin) rack c) s (Write b bytes) Done next × (next.recent ≡ s.recent)) (sym st.is) (
           written_state a b (padded (shape_of a).l bytes) m c wrote state W,
           stands_after a b (padded (shape_of a).l bytes) m c state state.blocks st.label wrote st.holds,
           written_step a b bytes m c state state.blocks st.label wrote st.holds,

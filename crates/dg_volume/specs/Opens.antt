@@ -26,6 +26,7 @@ use Rattle.dg_store.specs.Stores.{TellsAll}
 use Rattle.dg_store.specs.Stores as stores
 use Rattle.dg_store.specs.declared.store.Store.{Store}
 use Rattle.dg_volume.specs.Origins.{WasHeld}
+use Rattle.dg_volume.specs.Origins.Origin.{held}
 use Rattle.dg_volume.specs.Phases.{phase_in}
 use Rattle.dg_volume.specs.Planned.{AreWanted, FindsOn, HasReadArray}
 use Rattle.dg_volume.specs.Volumes.{FitsArray, IsWell, Known, StandsIn, any_phase, cut_of, given_of, live_of, members_of, rack_of, shape_of, table_of}
@@ -134,7 +135,7 @@ pub record HasOpened {R : Type 0} (rack : Ghosts R) (before : R) (volume : Volum
   pub others : (q : ℕ) → (shape_of volume).b ≤ q / 2 → Told IsSame (rack.bytes before q) (rack.bytes (rack_of volume) q)
   pub falls : MembersFall (rack.counts before).faults (rack.counts (rack_of volume)).faults first (members_of volume)
   pub states_are : (V : List (List ℕ)) →
-      let P : Type 0 = WasHeld (Some (record { table = table_of volume; members = first; bytes = rack.bytes before; blocks = V })) in
+      let P : Type 0 = WasHeld rack (held (record { table = table_of volume; members = first; bytes = rack.bytes before; blocks = V })) in
       (state : State) × (state.blocks ≡ V) × Opens (Known P rack volume) taken None (rack.counts before) state
       × StandsIn any_phase rack P volume state × (state.recent ≡ hot)
 

@@ -124,7 +124,7 @@ pub record IsPutInPlace {S R : Type 0} (phase : phases.Ghosts S) (rack : Ghosts 
   pub pending_is : new.pending ≡ old.pending
   pub placed : IsInPlace (volumes.table_of new) (phase.kept old.phase) new.homes new.copies
   pub stands : (V : List (List ℕ)) → Tells rack new → StandsFor phase rack old V → StandsFor phase rack new V
-  pub steps : (origin : Origin) (rest : State) (V : List (List ℕ)) → StandsUnder rack old rest.label → (Known (WasHeld origin) rack old → StandsFor phase rack old V)
+  pub steps : (origin : Origin R) (rest : State) (V : List (List ℕ)) → StandsUnder rack old rest.label → (Known (WasHeld rack origin) rack old → StandsFor phase rack old V)
       → (last : Option LastLabel) × StandsUnder rack new last
-      × Step (Known (WasHeld origin) rack new) (state_of phase rack old rest V) Settle SettledReply
+      × Step (Known (WasHeld rack origin) rack new) (state_of phase rack old rest V) Settle SettledReply
       (record (state_of phase rack new rest V) { phase = SettledPhase; label = last })

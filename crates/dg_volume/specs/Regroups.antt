@@ -24,6 +24,7 @@ use Rattle.dg_store.specs.declared.store.Store.{Store}
 use Rattle.dg_volume.specs.Left.{marked_too, unmarked}
 use Rattle.dg_volume.specs.Opens.{IsRestored}
 use Rattle.dg_volume.specs.Origins.{Origin, WasHeld}
+use Rattle.dg_volume.specs.Origins.Origin.{told}
 use Rattle.dg_volume.specs.Phases.{kept_in, phase_in}
 use Rattle.dg_volume.specs.Settles.{GoesBy, KeepsArray}
 use Rattle.dg_volume.specs.Volumes.{IsWell, Known, StandsIn, Tells, any_phase, cut_of, given_of, line_of, live_of, marks_of, members_of, rack_of, shape_of, table_of}
@@ -112,19 +113,18 @@ pub record TakesOut {R : Type 0} (rack : Ghosts R) (boundaries : R → ℕ) (dro
   pub below : dropped (stores.rack_of mid) (lost_bits (stores.members_of mid) (stores.shape_of mid).b) (stores.rack_of left)
   pub read : Stays rack left new
 
--- What the content of a step rests on where boundaries were taken out of use: all members of the array before told their bytes, those of these
--- boundaries too.
-pub record WasTold {R : Type 0} (rack : Ghosts R) (P : Type 0) (mid : Store R) : Type 0 where
-  pub held : P
-  pub tells : TellsAll rack mid
+-- What the content of later steps rests on: what it rested on before, and that all members of the array told their bytes, those of the boundaries
+-- that were taken out of use too.
+abbrev pub told_in : {R : Type 0} → Store R → Origin R → Origin R
+told_in mid origin = told (stores.shape_of mid).b (stores.rack_of mid) origin
 
 -- Boundaries were taken out of use, and blocks with them. Whichever state the volume was in, it made the step of that.
 pub record IsRegrouped {R : Type 0} (rack : Ghosts R) (boundaries : R → ℕ) (dropped : R → ℕ → R → Type 0) (r c : ℕ) (old new : Volume AnyPhase R) : Type 0 where
   pub out : TakesOut rack boundaries dropped old.store new.store
   pub given_is : given_of new ≡ given_of old
-  pub steps : (origin : Origin) (state : State) → StandsIn any_phase rack (WasHeld origin) old state →
-      (next : State) × StandsIn any_phase rack (WasTold rack (WasHeld origin) out.mid) new next
-      × Step (Known (WasTold rack (WasHeld origin) out.mid) rack new) state Regroup (RegroupedReply r c) next × (next.recent ≡ state.recent)
+  pub steps : (origin : Origin R) (state : State) → StandsIn any_phase rack (WasHeld rack origin) old state →
+      (next : State) × StandsIn any_phase rack (WasHeld rack (told_in out.mid origin)) new next
+      × Step (Known (WasHeld rack (told_in out.mid origin)) rack new) state Regroup (RegroupedReply r c) next × (next.recent ≡ state.recent)
 
 -- by each answer
 abbrev pub AnswersRegroup : {R : Type 0} → Ghosts R → (R → ℕ) → (R → ℕ → R → Type 0) → Volume AnyPhase R → Volume AnyPhase R → RegroupAnswer → Type 0

@@ -137,8 +137,8 @@ pub record StandsIn {S R : Type 0} (phase : phases.Ghosts S) (rack : Ghosts R) (
 -- Whichever state the volume was in, it made a step from it, to a state that it is in now, in which so changed inodes were read last. That the
 -- volume stood for the state's blocks may rest on what its members held when it was opened: then the content of the step does.
 abbrev pub StepsBy : {S T R : Type 0} → phases.Ghosts S → phases.Ghosts T → Ghosts R → (List ℕ → List ℕ) → Volume S R → Event → Reply → Volume T R → Type 0
-StepsBy from to rack touch old event reply new = (origin : Origin) (state : State) → StandsIn from rack (WasHeld origin) old state →
-    (next : State) × StandsIn to rack (WasHeld origin) new next × Step (Known (WasHeld origin) rack new) state event reply next × (next.recent ≡ touch state.recent)
+StepsBy from to rack touch old event reply new = (origin : Origin R) (state : State) → StandsIn from rack (WasHeld rack origin) old state →
+    (next : State) × StandsIn to rack (WasHeld rack origin) new next × Step (Known (WasHeld rack origin) rack new) state event reply next × (next.recent ≡ touch state.recent)
 
 -- the same of a step that reads no file
 abbrev pub StepsTo : {S T R : Type 0} → phases.Ghosts S → phases.Ghosts T → Ghosts R → Volume S R → Event → Reply → Volume T R → Type 0
@@ -146,8 +146,8 @@ StepsTo from to rack old event reply new = StepsBy from to rack (λ recent. rece
 
 -- The same, but said of states that have a block for each of the array's alone: what becomes of blocks then counts them.
 abbrev pub StepsSized : {S T R : Type 0} → phases.Ghosts S → phases.Ghosts T → Ghosts R → Volume S R → Event → Reply → Volume T R → Type 0
-StepsSized from to rack old event reply new = (origin : Origin) (state : State) → StandsIn from rack (WasHeld origin) old state → length state.blocks ≡ (shape_of old).n →
-    (next : State) × StandsIn to rack (WasHeld origin) new next × Step (Known (WasHeld origin) rack new) state event reply next × (next.recent ≡ state.recent)
+StepsSized from to rack old event reply new = (origin : Origin R) (state : State) → StandsIn from rack (WasHeld rack origin) old state → length state.blocks ≡ (shape_of old).n →
+    (next : State) × StandsIn to rack (WasHeld rack origin) new next × Step (Known (WasHeld rack origin) rack new) state event reply next × (next.recent ≡ state.recent)
 
 -- the inodes that were read last, once the file of this inode was given in a phase
 abbrev pub touched_by : Phase → Option ℕ → List ℕ → List ℕ
@@ -207,7 +207,7 @@ pub record Leaves {S T R : Type 0} (from : phases.Ghosts S) (to : phases.Ghosts 
 -- It is in each state that the other was in: it is the same volume, and only what is known of its phase may be another.
 pub record IsSame {S T R : Type 0} (from : phases.Ghosts S) (to : phases.Ghosts T) (rack : Ghosts R) (old : Volume S R) (new : Volume T R) : Type 0 where
   pub leaves : Leaves from to rack old new
-  pub stands : (origin : Origin) (state : State) → StandsIn from rack (WasHeld origin) old state → StandsIn to rack (WasHeld origin) new state
+  pub stands : (origin : Origin R) (state : State) → StandsIn from rack (WasHeld rack origin) old state → StandsIn to rack (WasHeld rack origin) new state
   pub rack_is : rack_of new ≡ rack_of old
   pub given_is : new.given ≡ old.given
 

@@ -6,6 +6,7 @@ use Rattle.dg_io.specs.MadeLaws.{same_both}
 use Rattle.dg_model.specs.States.{State}
 use Rattle.dg_model.specs.declared.shapes.Shape.{Shape}
 use Rattle.dg_run.proofs.arrays.Array.new.Goals as goal
+use Rattle.dg_volume.specs.Origins.Origin.{nothing}
 
 pub returns : goal.returns
 returns g c =
@@ -20,7 +21,7 @@ returns g c =
       state = made.state;
       blank = made.blank;
       stands = record {
-        volume = into.stands None made.state made.stands;
+        volume = into.stands nothing made.state made.stands;
         recent = ap (λ (s : State). s.recent) made.blank.is ∙ sym c.in_ok-hot.ensures;
         sized = ap (λ (s : State). length s.blocks) made.blank.is ∙ length-replicate c.args.shape.n (zeros c.args.shape.l)
             ∙ ap (λ (s : State). s.table.shape.n) (sym made.blank.is);
