@@ -172,6 +172,7 @@ module _ {S R : Type 0} (phase : phases.Ghosts S) (rack : Ghosts R) where
             inferred = subst (λ (p : S). IfSome (phase.kept p) (FitsArray (shape_of b))) (sym h.phase_is) fits;
             labeled = labeled_by rack a b line h.labels well.labeled;
             in_use = fits_same a b h.in_use same_shape h.written well.in_use;
+            long = long_on a b h.in_use well.long;
             homes_are = subst (λ (x : List Home). AreHomes (shape_of b) x) (sym h.homes) homes;
             few_homes =
                 subst (λ (x : List Home). length x ≤ (shape_of b).n) (sym h.homes)

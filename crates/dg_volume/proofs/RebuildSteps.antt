@@ -330,6 +330,7 @@ module _ {S R : Type 0} (phase : phases.Ghosts S) (rack : Ghosts R) where
           inferred = subst (λ (p : S). IfSome (phase.kept p) (FitsArray (shape_of b))) (sym h.beside.phase_is) fits;
           labeled = labeled_by rack a b (line_same a b (ap (λ (u : InUse). u.long) h.beside.in_use) same_shape) h.labels well.labeled;
           in_use = fits_as a b h.beside.in_use same_shape (λ c none. subst (λ (xs : List Site). has_site xs ≡ false) (sym (sites c)) (bare_left (is_among reaped c) (sites_in (table_of a) c) none)) well.in_use;
+          long = long_on a b h.beside.in_use well.long;
           homes_are = subst (λ (x : List Home). AreHomes (shape_of b) x) (sym h.beside.homes) homes;
           few_homes =
               subst (λ (x : List Home). length x ≤ (shape_of b).n) (sym h.beside.homes)
