@@ -32,7 +32,7 @@ use Rattle.dg_model.specs.declared.wants.Want.TheVariants.{File, Kept, Stray}
 use Rattle.dg_volume.proofs.HomeLaws.{are_homes}
 use Rattle.dg_volume.proofs.PlacedLaws.{off_table}
 use Rattle.dg_store.specs.Answers.{SameWritten}
-use Rattle.dg_volume.proofs.UseLaws.{fits_same, least_here, least_on}
+use Rattle.dg_volume.proofs.UseLaws.{fits_same, least_here, least_on, long_on}
 use Rattle.dg_volume.proofs.VolumeLaws.{Labels, StepsAt, label_by, labeled_by, line_same, on_label, under_by}
 use Rattle.dg_volume.specs.Origins.{Origin, WasHeld}
 use Rattle.dg_volume.specs.Copies.{StepsHot, diffuse_reply}

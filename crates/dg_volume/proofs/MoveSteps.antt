@@ -33,7 +33,7 @@ use Rattle.dg_store.specs.Stores as stores
 use Rattle.dg_store.specs.declared.store.Store.{Store}
 use Rattle.dg_volume.proofs.ArrayLaws.{told_by, told_moved}
 use Rattle.dg_volume.proofs.LabelLaws.{good_falls, relabels_behind}
-use Rattle.dg_volume.proofs.UseLaws.{fits_same, least_here, least_on}
+use Rattle.dg_volume.proofs.UseLaws.{fits_same, least_here, least_on, long_on}
 use Rattle.dg_volume.proofs.VolumeLaws.{HasRead, IsBeside, Labels, label_by, labeled_by, line_same, on_label, read_state, reads_in, reads_stay, same_in, steps_from, under_by}
 use Rattle.dg_volume.specs.Origins.{WasHeld}
 use Rattle.dg_volume.specs.Numbers.{unsettled_by}

@@ -48,7 +48,7 @@ use Rattle.dg_volume.proofs.ReapLaws.{are_without, by_without, fit_without, plac
 use Rattle.dg_volume.proofs.RebuildMarks.{both_out, by_loss, copied_not_lost, dead_mark, failed_not_lost, if_some, mark_dead, mark_free, none_passed, reaped_stands, stands_has, stray_at}
 use Rattle.dg_volume.proofs.RefillBehind.{HasSlots, falls_behind, filling_was, live_before, lost_behind, others_behind, slots_behind}
 use Rattle.dg_volume.proofs.RefillLaws.{filling_live, left_outs, lost_none_filling, lost_where_left}
-use Rattle.dg_volume.proofs.UseLaws.{HasPlace, IsUnused, fits_as, lost_in, lost_of, place_on, unused_lost}
+use Rattle.dg_volume.proofs.UseLaws.{HasPlace, IsUnused, fits_as, long_on, lost_in, lost_of, place_on, unused_lost}
 use Rattle.dg_volume.proofs.VolumeLaws.{IsBeside, Keeps, Labels, StepsAt, holds_on, kept_state, label_by, labeled_by, leaves, line_same, lost_on, on_label, quiet_in, still_in, under_by}
 use Rattle.dg_volume.proofs.VolumeSteps.{false_of}
 use Rattle.dg_volume.specs.Origins.{Origin, WasHeld}
