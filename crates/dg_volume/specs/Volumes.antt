@@ -174,9 +174,9 @@ pub record IsInPlace (table : Table) (kept : Option KeptInference) (homes copies
   pub by : IfSome kept (λ inference. AreWantsBy inference wants)
 
 -- What holds of a volume between calls: its array is sound; its buffers are for blocks of its size; it has a mark for each block; what is
--- inferred is of this array; the label that is kept fits the array; the array's boundaries are those in use, and no cut block has a site; homes are
--- on its boundaries, and no more than its blocks; only a settled one has copies; a worn one has a lost boundary; and of a settled one each block is
--- in its place.
+-- inferred is of this array; the label that is kept fits the array; the array's boundaries are those in use, and no cut block has a site; its members
+-- are as long by no more boundaries than its first line has; homes are on its boundaries, and no more than its blocks; only a settled one has copies;
+-- a worn one has a lost boundary; and of a settled one each block is in its place.
 pub record IsWell {S R : Type 0} (phase : phases.Ghosts S) (rack : Ghosts R) (volume : Volume S R) : Type 0 where
   pub array : IsSound rack volume.store
   pub levels : volume.levels.fragment ≡ (shape_of volume).l
@@ -184,6 +184,7 @@ pub record IsWell {S R : Type 0} (phase : phases.Ghosts S) (rack : Ghosts R) (vo
   pub inferred : IfSome (phase.kept volume.phase) (FitsArray (shape_of volume))
   pub labeled : HasLabel rack volume
   pub in_use : FitsReduced (table_of volume) (reduced_of volume)
+  pub long : volume.in_use.long ≤ volume.in_use.boundaries
   pub homes_are : AreHomes (shape_of volume) volume.homes
   pub few_homes : length volume.homes ≤ (shape_of volume).n
   pub copies_are : AreHomes (shape_of volume) volume.copies
