@@ -54,13 +54,21 @@ fn is_lost_at<R: Rack>(store: &Store<R>, place: u8) -> bool
 }
 
 /// Whether two disks of the group are out, by the answer to the drop of one.
-fn is_lost_by(answer: DropAnswer) -> bool
+fn is_lost_by_drop(answer: DropAnswer) -> bool
     ensures { result ≡ drop_loses answer }
 {
     match answer {
-        DropAnswer::Plain | DropAnswer::Already => false,
         DropAnswer::Dropped(lost) => lost,
+        DropAnswer::Plain => false,
+        DropAnswer::Already => false,
     }
+}
+
+/// The same by the answer to the mending of one.
+fn is_lost_by_mend(answer: MendAnswer) -> bool
+    ensures { result ≡ mend_loses answer }
+{
+    matches!(answer, MendAnswer::Lost)
 }
 
 /// Makes the first member of a boundary fail where two disks of its group are out.
@@ -89,7 +97,7 @@ fn drop_at<R: Disks>(store: &mut Store<R>, place: u8, disk: u8) -> DropAnswer
     ensures handles { HandlesDisk R.Rack R.width R.groups place disk (drop_loses result) store.old store.new }
 {
     let answer = store.drop_disk(place, disk);
-    fail_where(store, place, is_lost_by(answer));
+    fail_where(store, place, is_lost_by_drop(answer));
     answer
 }
 
@@ -104,7 +112,7 @@ fn mend_at<R: Disks>(store: &mut Store<R>, place: u8, disk: u8) -> MendAnswer
     ensures handles { HandlesDisk R.Rack R.width R.groups place disk (mend_loses result) store.old store.new }
 {
     let answer = store.mend(place, disk);
-    fail_where(store, place, matches!(answer, MendAnswer::Lost));
+    fail_where(store, place, is_lost_by_mend(answer));
     answer
 }
 
