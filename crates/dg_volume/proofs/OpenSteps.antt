@@ -482,6 +482,7 @@ module _ (one : OneOwner) (none : NoSystem) {R : Type 0} (rack : Ghosts R) (befo
     marks = marks_size rack start volume.store saved made.reads.reads.table volume.phase volume.pending.items (shape_of volume).n made.phase size (ap length made.pending ∙ size);
     inferred = fits_phase rack start volume.store saved made.reads.reads.table volume.phase made.phase;
     in_use = in_use_all;
+    long = omega (arith, made.long, made.boundaries);
     labeled =
         subst (λ (x : Shape). IsLabeled rack x volume.store volume.label) own_line
         (subst (λ (l : Option KeptLabel). IsLabeled rack (stores.shape_of start) volume.store l) (sym made.label)

@@ -515,6 +515,13 @@ module _ {R : Type 0} (rack : Ghosts R) where
           λ i. record { boundaries = sym (ap (λ (u : InUse). u.boundaries) h.in_use ∙ h.out.boundaries_are) i; live = sym (ap (λ (u : InUse). u.live.items) h.in_use ∙ h.out.live_is) i; cut = sym (ap (λ (u : InUse). u.cut.items) h.in_use ∙ h.out.cut_is) i } in
           subst (λ (t : Table). FitsReduced t (reduced_of f)) (sym table) (subst (λ (r : Reduced). FitsReduced (table_left left (table_of m)) r) now fits)
 
+      long_f : f.in_use.long ≤ f.in_use.boundaries
+      long_f =
+          let less = (open_leaves a m h.unsealed).well.long in
+          let long = ap (λ (u : InUse). u.long) h.in_use ∙ h.out.long_is in
+          let boundaries = ap (λ (u : InUse). u.boundaries) h.in_use ∙ h.out.boundaries_are in
+          omega (arith, less, long, boundaries)
+
       homes_f : AreHomes (shape_of f) f.homes × (length f.homes ≤ (shape_of f).n)
       homes_f =
           let well = (open_leaves a m h.unsealed).well in
@@ -535,6 +542,7 @@ module _ {R : Type 0} (rack : Ghosts R) where
             inferred = fits.inferred;
             labeled = labeled_f;
             in_use = in_use_f;
+            long = long_f;
             homes_are = homes_f.0;
             few_homes = homes_f.1;
             copies_are = subst (λ (x : List Home). AreHomes (shape_of f) x) (sym none) (no_homes (shape_of f));

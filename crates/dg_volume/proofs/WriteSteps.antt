@@ -208,6 +208,7 @@ module _ {S T R : Type 0} (from : phases.Ghosts S) (to : phases.Ghosts T) (rack 
       inferred = subst (λ (x : Shape). IfSome (to.kept c.phase) (FitsArray x)) (sym h.shape) h.fits;
       labeled = h.labeled;
       in_use = h.in_use;
+      long = let less = well.long in let long : c.in_use.long ≡ a.in_use.long = ap (λ (x : Shape). x.b) h.line in omega (arith, less, long, h.boundaries);
       homes_are = subst (λ (x : Shape). AreHomes x c.homes) (sym h.shape) (subst (λ (x : List Home). AreHomes (shape_of a) x) (sym h.homes) well.homes_are);
       few_homes = subst (λ (x : Shape). length c.homes ≤ x.n) (sym h.shape) (subst (λ (x : List Home). length x ≤ (shape_of a).n) (sym h.homes) well.few_homes);
       copies_are = subst (λ (x : Shape). AreHomes x c.copies) (sym h.shape) h.copies;
