@@ -1,67 +1,35 @@
 -- A volume makes a step by the loss and the mending of a single disk.
-use Rattle.std.proofs.Common.{◌≡◌, ◌∙◌, ◌⊎◌, ◌<◌, ◌≤◌, ◌+◌, ◌*◌, ◌/◌, ℕ, Bool, true, false, List, length, inl, inr, refl, sym, ap, subst, arith}
+use Rattle.std.proofs.Common.{◌≡◌, ◌∙◌, ◌<◌, ◌≤◌, ◌+◌, ◌*◌, ◌/◌, ℕ, Bool, true, false, List, length, inl, inr, refl, sym, ap, subst, arith}
 use Rattle.std.specs.Prelude.{IfSome, Option, Some}
 use Rattle.std.proofs.lemmas.Bool.{false≢true}
-use Rattle.dg_io.specs.DiskAnswers.{DropsDisk, MendsDisk}
-use Rattle.dg_io.specs.declared.disks.DropAnswer.{DropAnswer}
-use Rattle.dg_io.specs.declared.disks.MendAnswer.{MendAnswer}
 use Rattle.dg_io.specs.declared.outside.Rack.{Ghosts}
+use Rattle.dg_label.specs.Labels.{StandsLabeled}
 use Rattle.dg_model.specs.Members.{IsStruck, is_lost}
 use Rattle.dg_model.specs.Saves.{AreHomes}
 use Rattle.dg_model.specs.Seals.{label_after}
 use Rattle.dg_model.specs.States.{Counts, CountsRise, State, has_lost}
-use Rattle.dg_model.specs.Steps.{Handles, Step}
+use Rattle.dg_model.specs.Steps.{Handles}
 use Rattle.dg_model.specs.Tables.{Table}
-use Rattle.dg_model.specs.declared.events.Event.{Event}
 use Rattle.dg_model.specs.declared.events.Event.TheVariants.{DropDisk, MendDisk}
 use Rattle.dg_model.specs.declared.members.MemberState.{MemberState}
 use Rattle.dg_model.specs.declared.members.MemberState.TheVariants.{Out}
-use Rattle.dg_model.specs.declared.replies.Reply.{Reply}
 use Rattle.dg_model.specs.declared.replies.Reply.TheVariants.{Already, Done, Failed, Lost, Mended, NotOut}
 use Rattle.dg_model.specs.declared.shapes.Shape.{Shape}
-use Rattle.dg_label.specs.Labels.{StandsLabeled}
 use Rattle.dg_store.specs.ReadLaws.{rack_none}
 use Rattle.dg_store.specs.Stores as stores
 use Rattle.dg_store.specs.declared.store.Store.{Store}
 use Rattle.dg_volume.proofs.DiskLaws.{fails_good, fails_or, fails_out, handles_none, relabels, shape_is, stands_still, writes_are}
 use Rattle.dg_volume.proofs.PlaceLaws.{lost_out}
 use Rattle.dg_volume.proofs.UseLaws.{HasPlace, fits_table, lost_in, lost_of, own_member}
-use Rattle.dg_volume.proofs.VolumeLaws.{Labels, labeled_by, line_same, lost_on, same_in, steps_from, under_by}
-use Rattle.dg_volume.specs.Disks.{DropsAt, FailsWhere, HandlesDisk, HasDisk, LeavesDisks, MendsAt, drop_loses, is_lost_in, mend_loses, place_of}
+use Rattle.dg_volume.proofs.VolumeLaws.{Labels, labeled_by, line_same, lost_on, steps_from, under_by}
+use Rattle.dg_volume.specs.Disks.{HandlesDisk, LeavesDisks, place_of}
 use Rattle.dg_volume.specs.Regroups.{GoesOn}
-use Rattle.dg_volume.specs.Volumes.{FitsArray, IsInPlace, IsWell, Known, StandsFor, StandsIn, StandsUnder, StepsTo, line_of, live_of, members_of, rack_of, shape_of, state_of, table_of}
+use Rattle.dg_volume.specs.Volumes.{FitsArray, IsInPlace, IsWell, Known, StandsFor, StandsIn, StandsUnder, StepsTo, line_of, members_of, rack_of, shape_of, state_of}
 use Rattle.dg_volume.specs.declared.phases.InPhase as phases
 use Rattle.dg_volume.specs.declared.volumes.Volume.{Volume}
 
--- what is said of the number that there is
-pub of_some : (P : ℕ → Type 0) (x : Option ℕ) (n : ℕ) → Some n ≡ x → IfSome x P → P n
-of_some P x n is h = subst (λ (y : Option ℕ). IfSome y P) (sym is) h
-
-pub at_some : (P : ℕ → Type 0) (x : Option ℕ) (n : ℕ) → Some n ≡ x → P n → IfSome x P
-at_some P x n is h = subst (λ (y : Option ℕ). IfSome y P) is h
-
 module _ {S R : Type 0} (phase : phases.Ghosts S) (rack : Ghosts R) where
   -- ---- nothing is done
-
-  pub steps_none : (a : Volume S R) (event : Event) (reply : Reply) → ((K : Type 0) (state : State) → Step K state event reply state) → StepsTo phase phase rack a event reply a
-  steps_none a event reply step = steps_from phase rack a a event reply (λ origin rest V label holds. (
-    state_of phase rack a rest V,
-    same_in phase rack a rest V label holds,
-    step (Known _ rack a) (state_of phase rack a rest V),
-    refl,
-  ))
-
-  -- the boundary was lost
-  pub steps_was_lost : (a : Volume S R) (s j : ℕ) → s < a.in_use.boundaries → is_lost_in a s ≡ true → StepsTo phase phase rack a (MendDisk s j) (Lost s) a
-  steps_was_lost a s j within lost = steps_from phase rack a a (MendDisk s j) (Lost s) (λ origin rest V label holds. (
-    state_of phase rack a rest V,
-    same_in phase rack a rest V label holds,
-    (within, refl, inl (lost, refl)),
-    refl,
-  ))
-
-  pub goes_none : (a : Volume S R) → IsWell phase rack a → GoesOn phase rack a a
-  goes_none a well = record { well = well; boundaries = refl; line = refl; calls = omega arith; writes = omega arith }
 
   pub disks_none : (width : R → Option ℕ) (groups : R → ℕ) (s j : ℕ) (a : Volume S R) → IsWell phase rack a → LeavesDisks rack width groups s j a a
   disks_none width groups s j a well = record { fails = false; array = handles_none rack width groups (place_of a s) j a.store well.array; idle = λ none. refl }
@@ -231,27 +199,3 @@ module _ {S R : Type 0} (phase : phases.Ghosts S) (rack : Ghosts R) where
           ),
           refl,
         ))
-
-    -- ---- what the rack answered
-
-    pub drops_at : (n : ℕ) (answer : DropAnswer) → j < n → HandlesDisk rack width groups s j (drop_loses answer) a.store store
-        → DropsDisk n s j (rack.disks (rack_of a)) (rack.disks (stores.rack_of store)) answer → DropsAt rack n t j a after answer
-    drops_at n answer below h drops =
-        let within = place.within in let number = well.in_use.number in let is = place.is in
-        record {
-          disk = record { boundary = place.number; disk = below };
-          in_use = omega (arith, is, within, number);
-          drops = subst (λ (k : ℕ). DropsDisk n k j (rack.disks (rack_of a)) (rack.disks (stores.rack_of store)) answer) (sym is) drops;
-          members = subst (λ (k : ℕ). FailsWhere (drop_loses answer) k (members_of a) (stores.members_of store)) (sym is) h.members;
-        }
-
-    pub mends_at : (n : ℕ) (answer : MendAnswer) → j < n → is_lost (members_of a) s ≡ false → HandlesDisk rack width groups s j (mend_loses answer) a.store store
-        → MendsDisk n s j (rack.disks (rack_of a)) (rack.disks (stores.rack_of store)) answer → MendsAt rack n t j a after answer
-    mends_at n answer below live h mends =
-        let is = place.is in
-        record {
-          disk = record { boundary = place.number; disk = below };
-          live = ap (λ (k : ℕ). is_lost (members_of a) k) is ∙ live;
-          mends = subst (λ (k : ℕ). MendsDisk n k j (rack.disks (rack_of a)) (rack.disks (stores.rack_of store)) answer) (sym is) mends;
-          members = subst (λ (k : ℕ). FailsWhere (mend_loses answer) k (members_of a) (stores.members_of store)) (sym is) h.members;
-        }

@@ -1,4 +1,4 @@
-use Rattle.std.proofs.Common.{◌≡◌, ◌<◌, ℕ, Bool, sym, ap, subst}
+use Rattle.std.proofs.Common.{◌<◌, Bool, sym, ap, subst}
 use Rattle.std.specs.Prelude.{IfSome}
 use Rattle.dg_io.specs.DiskAnswers.{DropsDisk}
 use Rattle.dg_io.specs.Disks.{DiskStates}

@@ -1,4 +1,4 @@
-use Rattle.std.proofs.Common.{◌≡◌, ◌<◌, false, arith}
+use Rattle.std.proofs.Common.{false, arith}
 use Rattle.dg_volume.proofs.DiskSteps.{goes, steps_already, steps_dropped}
 use Rattle.dg_volume.proofs.volumes.Volume.drop_disk.Goals as goal
 

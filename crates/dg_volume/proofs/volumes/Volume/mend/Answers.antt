@@ -1,15 +1,18 @@
-use Rattle.std.proofs.Common.{◌≡◌, ◌<◌, false, true, sym, ◌∙◌, arith}
-use Rattle.dg_volume.proofs.DiskSteps.{goes, of_some, steps_failed, steps_lost, steps_mended, steps_not_out, steps_was_lost}
+use Rattle.std.proofs.Common.{◌∙◌, ℕ, false, true, subst, sym, arith}
+use Rattle.std.specs.Prelude.{IfSome, Option}
+use Rattle.dg_volume.proofs.DiskSteps.{disks_none, goes, steps_failed, steps_lost, steps_mended, steps_not_out}
 use Rattle.dg_volume.proofs.volumes.Volume.mend.Goals as goal
 use Rattle.dg_volume.specs.Disks.{AreSingle}
-use Rattle.dg_volume.specs.Volumes.{rack_of}
+
+pub returns-then-is_lost_at-clause-leaves : goal.returns-then-is_lost_at-clause-leaves
+returns-then-is_lost_at-clause-leaves g c = disks_none g.S.InPhase g.R.Rack g.R.Disks.width g.R.Disks.groups c.args.boundary c.args.disk c.args.self.now c.requires.well
 
 pub returns-in-Lost-clause-steps : goal.returns-in-Lost-clause-steps
 returns-in-Lost-clause-steps g c =
     let s = c.in-Some-place in
     steps_lost g.S.InPhase g.R.Rack g.R.Disks.width g.R.Disks.groups c.args.self.now c.mend_at.new.store c.args.boundary s.place c.args.disk c.requires.well
     (record { number = omega arith; is = s.ensures.some; within = omega (arith, s.ensures.within, c.requires.well.in_use.number) }) c.in-Lost.ensures.handles (sym c.is_lost_at.ensures ∙ c.if-is_lost_at.false)
-    (of_some (λ n. AreSingle c.args.self.now) (g.R.Disks.width (rack_of c.args.self.now)) c.in-Some.width c.in-Some.ensures c.requires.single s.place)
+    (subst (λ (width : Option ℕ). IfSome width (λ n. AreSingle c.args.self.now)) (sym c.in-Some.ensures) c.requires.single s.place)
 
 pub returns-in-Lost-clause-on : goal.returns-in-Lost-clause-on
 returns-in-Lost-clause-on g c =
@@ -45,7 +48,7 @@ pub returns-in-Mended-clause-steps : goal.returns-in-Mended-clause-steps
 returns-in-Mended-clause-steps g c =
     let s = c.in-Some-place in
     steps_mended g.S.InPhase g.R.Rack g.R.Disks.width g.R.Disks.groups c.args.self.now c.mend_at.new.store c.args.boundary s.place c.args.disk c.requires.well
-    (record { number = omega arith; is = s.ensures.some; within = omega (arith, s.ensures.within, c.requires.well.in_use.number) }) c.in-Mended.ensures.handles c.in-Mended.field-0 (sym c.is_lost_at.ensures ∙ c.if-is_lost_at.false)
+    (record { number = omega arith; is = s.ensures.some; within = omega (arith, s.ensures.within, c.requires.well.in_use.number) }) c.in-Mended.ensures.handles c.in-Mended.stripes (sym c.is_lost_at.ensures ∙ c.if-is_lost_at.false)
 
 pub returns-in-Mended-clause-on : goal.returns-in-Mended-clause-on
 returns-in-Mended-clause-on g c =
