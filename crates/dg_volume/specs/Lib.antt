@@ -1,6 +1,7 @@
 pub mod Audits
 pub mod Copies
 pub mod CutReads
+pub mod Disks
 pub mod Faults
 pub mod Fronts
 pub mod HeldLaws
