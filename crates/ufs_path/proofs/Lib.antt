@@ -20,3 +20,5 @@ pub mod InodeLaws
 pub mod TreeLaws
 pub mod GrowLaws
 pub mod BranchLaws
+pub mod NameLaws
+pub mod MarkedLaws

@@ -4,3 +4,5 @@ pub mod Parts
 pub mod Walks
 pub mod Consults
 pub mod Trees
+pub mod PathLists
+pub mod PathListLaws
