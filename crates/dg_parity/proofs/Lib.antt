@@ -36,4 +36,6 @@ pub mod RunLemmas
 pub mod RunSteps
 pub mod SoundLemmas
 pub mod StripeLemmas
+pub mod UpdateLemmas
+pub mod UpdateSteps
 pub mod WriteSteps

@@ -16,7 +16,7 @@ pub reads-some : (n b : ℕ) → begins n b ≡ false → reads_at n b ≡ (n + 
 reads-some n b e = ap (λ (k : Bool). if k then 0 else (n + 1) * n) e
 
 -- a stripe that begins behind the first byte, or with it
-whole-low : (n at size q : ℕ) (window : Window) → 3 ≤ n → IsWindow n at size window → (q ≡ 0 → begins n at ≡ true) → at ≤ 512 * ((window.first + q) * (n - 1))
+pub whole-low : (n at size q : ℕ) (window : Window) → 3 ≤ n → IsWindow n at size window → (q ≡ 0 → begins n at ≡ true) → at ≤ 512 * ((window.first + q) * (n - 1))
 whole-low n at size q window least h first =
     let s = n - 1 in
     let c = at / 512 in
@@ -36,7 +36,7 @@ whole-low n at size q window least h first =
     ]
 
 -- a stripe that ends before the last byte, or with it
-whole-high : (n at size q : ℕ) (window : Window) → 3 ≤ n → 0 < size → IsWindow n at size window → q < window.count → (q + 1 ≡ window.count → begins n (at + size) ≡ true)
+pub whole-high : (n at size q : ℕ) (window : Window) → 3 ≤ n → 0 < size → IsWindow n at size window → q < window.count → (q + 1 ≡ window.count → begins n (at + size) ≡ true)
     → 512 * ((window.first + q + 1) * (n - 1)) ≤ at + size
 whole-high n at size q window least some h lt last =
     let s = n - 1 in
