@@ -61,7 +61,7 @@ least-is n out at size t by in0 e =
 
 pub stripes-some : (n place count : ℕ) → 0 < count → stripes_in n place count ≡ stripe_of n ((place + (count - 1)) / 512) - stripe_of n (place / 512) + 1
 stripes-some n place zero some = absurd (omega arith)
-stripes-some n place (suc k) some = refl
+stripes-some n place (suc k) some = ap (λ (x : ℕ). stripe_of n ((place + x) / 512) - stripe_of n (place / 512) + 1) (omega arith)
 
 pub window-stripes : (n at size : ℕ) (window : Window) → 0 < size → IsWindow n at size window → window.count ≡ stripes_in n at size
 window-stripes n at size window some h = omega (arith, h.first, h.last, h.some, stripes-some n at size some)
