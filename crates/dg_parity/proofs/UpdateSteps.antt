@@ -2,7 +2,7 @@
 use Rattle.std.proofs.Common.{◌≡◌, ◌≢◌, ℕ, zero, suc, ◌+◌, ◌-◌, ◌*◌, ◌/◌, ◌%◌, ◌<◌, ◌≤◌, ◌⊎◌, inl, inr, Bool, true, false, refl, sym, ap, subst, ◌∙◌, arith, add-zero}
 use Rattle.std.specs.Prelude.{◌&&◌, ◌||◌, ◌==◌, min, nat_le, nat_lt, not, if◌then◌else◌}
 use Rattle.std.proofs.Math.Nat.{add-mul, mul-le-mul_left, mul-le-mul_right, mul-one, one-mul}
-use Rattle.std.proofs.lemmas.Bool.{and_parts, cases_eq, cases_lt}
+use Rattle.std.proofs.lemmas.Bool.{and_parts, cases_eq, cases_lt, false≢true}
 use Rattle.std.proofs.lemmas.Bool.Decides.{nat_tests}
 use Rattle.std.proofs.lemmas.Nat.{div-add-mod', mod_below}
 use Rattle.dg_io.specs.declared.outside.Rack.{Ghosts}
@@ -191,7 +191,9 @@ stripes-next n place done part least some e =
 
 pass-one : (n at part : ℕ) → 0 < part → stripe_of n ((at + (part - 1)) / 512) < stripe_of n (at / 512) + 16 → passes_in n at part ≡ 1
 pass-one n at zero some near = absurd (omega arith)
-pass-one n at (suc k) some near = omega (arith, near)
+pass-one n at (suc k) some near =
+    let same : stripe_of n ((at + k) / 512) ≡ stripe_of n ((at + (suc k - 1)) / 512) = ap (λ (x : ℕ). stripe_of n ((at + x) / 512)) (omega arith) in
+    omega (arith, near, same)
 
 pass-window : (n at part : ℕ) → 3 ≤ n → 0 < part → stripe_of n ((at + (part - 1)) / 512) < stripe_of n (at / 512) + 16
     → IsWindow n at part (record { first = stripe_of n (at / 512); count = stripes_in n at part })
@@ -211,8 +213,11 @@ pub record IsLeast {S : Type 0} (rack : Ghosts S) (n : ℕ) (out : ℕ → Bool)
   pub stripes : (rack.counts now).calls ≤ (rack.counts before).calls + sum_upto (stripes_in n place done) (λ q. least_reads n out place size (stripe_of n (place / 512) + q))
       + sum_upto (stripes_in n place done) (λ q. writes_in n out place size (stripe_of n (place / 512) + q))
 
-pub least-none : {S : Type 0} (rack : Ghosts S) (n : ℕ) (out : ℕ → Bool) (place size all : ℕ) (now : S) → IsLeast rack n out place size all all 0 now now
-least-none rack n out place size all now = record { passes = omega arith; stripes = omega arith }
+pub least-none : {S : Type 0} (rack : Ghosts S) (n : ℕ) (out : ℕ → Bool) (place size : ℕ) (now : S)
+    → IsLeast rack n out place size (passes_in n place size) (passes_in n (place + 0) (size - 0)) 0 now now
+least-none rack n out place size now =
+    let e : passes_in n (place + 0) (size - 0) ≡ passes_in n place size = ap (λ (a : ℕ). passes_in n a (size - 0)) (add-zero place) ∙ ap (passes_in n place) (omega arith) in
+    record { passes = omega (arith, ap (λ (k : ℕ). n * k) e); stripes = omega arith }
 
 module _ {S : Type 0} (rack : Ghosts S) (n : ℕ) (out : ℕ → Bool) (place size all rest next done part : ℕ) (s t u : S) (least : 3 ≤ n) (some : 0 < part) (fits : done + part ≤ size) (more : next + 1 ≤ rest)
     (cut : done ≢ 0 → begins n (place + done) ≡ true) (end : (done + part ≡ size) ⊎ (begins n (place + (done + part)) ≡ true))
@@ -233,7 +238,7 @@ module _ {S : Type 0} (rack : Ghosts S) (n : ℕ) (out : ℕ → Bool) (place si
     | inr b ↦ inr (subst (λ (k : ℕ). begins n k ≡ true) (omega arith) b, omega (arith, fits))
   ]
 
-  window : Window
+  abbrev window : Window
   window = record { first = stripe_of n ((place + done) / 512); count = stripes_in n (place + done) part }
 
   -- what a pass adds to a sum over the stripes
@@ -267,8 +272,31 @@ module _ {S : Type 0} (rack : Ghosts S) (n : ℕ) (out : ℕ → Bool) (place si
         stripes = omega (arith, h.stripes, call.stripes, reads-added, writes-added);
       }
 
-pub least-all : {S : Type 0} (rack : Ghosts S) (n : ℕ) (out : ℕ → Bool) (place size all rest done : ℕ) (before now : S) → done ≡ size
-    → IsLeast rack n out place size all rest done before now → all ≡ passes_in n place size → CallsLeast rack n out place size before now
-least-all rack n out place size all rest done before now e h same =
-    let g : IsLeast rack n out place size all rest size before now = subst (λ (k : ℕ). IsLeast rack n out place size all rest k before now) e h in
-    record { passes = omega (arith, g.passes, ap (λ (k : ℕ). n * k) same); stripes = omega (arith, g.stripes) }
+-- a pass on a group of which no disk went out so far, unless one goes out in it
+pub least-then : {S : Type 0} (rack : Ghosts S) (place size all rest next done part : ℕ) (a b c : Group) (s t u : S) → 0 < part → done + part ≤ size → next + 1 ≤ rest
+    → (done ≢ 0 → begins a.disks (place + done) ≡ true) → (done + part ≡ size) ⊎ (begins a.disks (place + (done + part)) ≡ true)
+    → stripe_of a.disks ((place + done + (part - 1)) / 512) < stripe_of a.disks ((place + done) / 512) + 16
+    → IsLater b c → StaysLeast rack b.disks (is_out b) (place + done) part b c t u
+    → ((b ≡ a) × IsLeast rack a.disks (is_out a) place size all rest done s t) ⊎ FellOne a b
+    → ((c ≡ a) × IsLeast rack a.disks (is_out a) place size all next (done + part) s u) ⊎ FellOne a c
+least-then rack place size all rest next done part a b c s t u some fits more cut end near later step (inr fell) = inr (fell-later a b c later fell)
+least-then rack place size all rest next done part a b c s t u some fits more cut end near later (inr fell) (inl same) = inr (fell-from a b c same.0 fell)
+least-then rack place size all rest next done part a b c s t u some fits more cut end near later (inl still) (inl same) =
+    inl (still.0 ∙ same.0,
+    least-next rack a.disks (is_out a) place size all rest next done part s t u a.least some fits more cut end near
+    (subst (λ (k : Group). CallsLeast rack k.disks (is_out k) (place + done) part t u) same.0 still.1) same.1)
+
+pub least-all : {S : Type 0} (rack : Ghosts S) (place size rest done : ℕ) (a b : Group) (s u : S) → done ≡ size
+    → ((b ≡ a) × IsLeast rack a.disks (is_out a) place size (passes_in a.disks place size) rest done s u) ⊎ FellOne a b
+    → StaysLeast rack a.disks (is_out a) place size a b s u
+least-all rack place size rest done a b s u e (inr fell) = inr fell
+least-all rack place size rest done a b s u e (inl same) =
+    let g : IsLeast rack a.disks (is_out a) place size (passes_in a.disks place size) rest size s u =
+    subst (λ (k : ℕ). IsLeast rack a.disks (is_out a) place size (passes_in a.disks place size) rest k s u) e same.1 in
+    inl (same.0, record { passes = omega (arith, g.passes); stripes = omega (arith, g.stripes) })
+
+-- no disk went out, and none later
+pub least-still : {S : Type 0} (rack : Ghosts S) (n : ℕ) (out : ℕ → Bool) (place count : ℕ) (a b c : Group) (s u : S) → IsLater b c
+    → ((j : ℕ) → is_out a j ≡ false → is_out c j ≡ false) → StaysLeast rack n out place count a b s u → CallsLeast rack n out place count s u
+least-still rack n out place count a b c s u later none (inl still) = still.1
+least-still rack n out place count a b c s u later none (inr fell) = absurd (false≢true (sym (none fell.disk fell.before) ∙ later.grows fell.disk fell.now))

@@ -10,6 +10,7 @@ use Rattle.dg_parity.specs.ParityRacks.{ParityMade, parity_bytes, parity_counts,
 use Rattle.dg_parity.specs.declared.parity_racks.ParityRack.{ParityRack}
 use Rattle.dg_parity.specs.declared.parity_racks.ParityRack.TheVariants.{Plain, OfGroups}
 use Rattle.dg_parity.proofs.ArraySteps.{ok_on, err_on}
+use Rattle.dg_parity.specs.ArrayCalls.{WritesLeast}
 use Rattle.dg_parity.proofs.parity_racks.ParityRackRack.write.Goals as goal
 
 pub write-requires-clause-stands : goal.write-requires-clause-stands
@@ -113,3 +114,13 @@ pub returns-in-OfGroups-clause-quiet : goal.returns-in-OfGroups-clause-quiet
 returns-in-OfGroups-clause-quiet g c =
     subst (λ (s : ParityRack g.row.R.Denot). OnOk c.write-in-OfGroups.result (WritesQuietly g.R.Rack s (OfGroups c.write-in-OfGroups.new.self) c.args.member c.args.place (length c.args.buf.now)))
     (sym c.in-OfGroups.is) c.write-in-OfGroups.ensures.quiet
+
+pub returns-in-Plain-clause-least : goal.returns-in-Plain-clause-least
+returns-in-Plain-clause-least g c =
+    subst (λ (s : ParityRack g.row.R.Denot). OnOk c.write.result (WritesLeast g.R.Rack s (Plain c.write.new.self) c.args.member c.args.place (length c.args.buf.now))) (sym c.in-Plain.is)
+    (ok_on c.write.result (WritesLeast g.R.Rack (Plain c.in-Plain.rack) (Plain c.write.new.self) c.args.member c.args.place (length c.args.buf.now)) tt)
+
+pub returns-in-OfGroups-clause-least : goal.returns-in-OfGroups-clause-least
+returns-in-OfGroups-clause-least g c =
+    subst (λ (s : ParityRack g.row.R.Denot). OnOk c.write-in-OfGroups.result (WritesLeast g.R.Rack s (OfGroups c.write-in-OfGroups.new.self) c.args.member c.args.place (length c.args.buf.now)))
+    (sym c.in-OfGroups.is) c.write-in-OfGroups.ensures.least
