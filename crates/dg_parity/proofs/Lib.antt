@@ -6,6 +6,7 @@ pub mod BlankLemmas
 pub mod BytesLemmas
 pub mod CallLemmas
 pub mod ChiefLemmas
+pub mod ChunkLemmas
 pub mod CountLemmas
 pub mod DiskLemmas
 pub mod EpochLemmas

@@ -2,7 +2,7 @@
 -- written, or by reconstruct-write, from the chunks of which not all is written. The rules are this project's own.
 use Rattle.std.specs.Prelude.{◌≡◌, ◌⊎◌, ◌+◌, ◌-◌, ◌*◌, ◌/◌, ◌&&◌, ◌||◌, ◌==◌, nat_le, nat_lt, not, min, ℕ, zero, suc, Bool, true, false, if◌then◌else◌}
 use Rattle.dg_io.specs.declared.outside.Rack.{Ghosts}
-use Rattle.dg_model.specs.Moves.{sum_upto}
+use Rattle.dg_model.specs.Moves.{count_upto, sum_upto}
 use Rattle.dg_parity.specs.Groups.{FellOne, MostCalls}
 use Rattle.dg_parity.specs.Runs.{chunk_on, passes_in}
 use Rattle.dg_parity.specs.Stripes.{parity_of, stripe_of}
@@ -51,6 +51,14 @@ writes_on n out at size t j = if is_changed n at size t j && not (out j) then 1 
 -- the writes in stripe t
 abbrev pub writes_in : ℕ → (ℕ → Bool) → ℕ → ℕ → ℕ → ℕ
 writes_in n out at size t = sum_upto n (writes_on n out at size t)
+
+-- of how many chunks of stripe t a part is written
+abbrev pub parts_in : ℕ → ℕ → ℕ → ℕ → ℕ
+parts_in n at size t = count_upto (n - 1) (λ k. has_part at size (t * (n - 1) + k))
+
+-- and of how many all
+abbrev pub wholes_in : ℕ → ℕ → ℕ → ℕ → ℕ
+wholes_in n at size t = count_upto (n - 1) (λ k. has_all at size (t * (n - 1) + k))
 
 -- in how many stripes so many bytes from a place on stand
 abbrev pub stripes_in : ℕ → ℕ → ℕ → ℕ
