@@ -46,26 +46,29 @@ module _ (f : ℕ → ℕ) (v p : ℕ) where
 
 -- ---- one disk
 
-or-one : (b x : Bool) → (if b || x then 1 else 0) ≡ (if b then 1 else cond x 1 0)
+abbrev one : Bool → ℕ
+one b = if b then 1 else 0
+
+or-one : (b x : Bool) → one (b || x) ≡ (if b then 1 else cond x 1 0)
 or-one true x = refl
 or-one false true = refl
 or-one false false = refl
 
-or-none : (b x : Bool) → (if not (b || x) then 1 else 0) ≡ (if b then 0 else cond (not x) 1 0)
+or-none : (b x : Bool) → one (not (b || x)) ≡ (if b then 0 else cond (not x) 1 0)
 or-none true x = refl
 or-none false true = refl
 or-none false false = refl
 
-and-in : (x y : Bool) → y ≡ false → (if x && not y then 1 else 0) ≡ (if x then 1 else 0)
-and-in true y e = ap (λ (b : Bool). if not b then 1 else 0) e
+and-in : (x y : Bool) → y ≡ false → one (x && not y) ≡ one x
+and-in true y e = ap (λ (b : Bool). one (not b)) e
 and-in false y e = refl
 
 rest-count : (p : ℕ → Bool) (m : ℕ) → sum_upto m (λ k. cond (not (p k)) 1 0) + count_upto m p ≡ m
 rest-count p zero = refl
-rest-count p (suc m) = omega (arith, rest-count p m, one (p m)) where
-  one : (b : Bool) → cond (not b) 1 0 + cond b 1 0 ≡ 1
-  one true = refl
-  one false = refl
+rest-count p (suc m) = omega (arith, rest-count p m, either (p m)) where
+  either : (b : Bool) → cond (not b) 1 0 + cond b 1 0 ≡ 1
+  either true = refl
+  either false = refl
 
 -- ---- the calls of a stripe
 
@@ -73,15 +76,15 @@ module _ (n : ℕ) (out : ℕ → Bool) (at size t : ℕ) (least : 3 ≤ n) (in0
   parity-low : parity_of n t < n
   parity-low = mod_below t n (omega (arith, least))
 
-  changed-all : sum_upto n (λ j. if is_changed n at size t j then 1 else 0) ≡ parts_in n at size t + 1
+  changed-all : sum_upto n (λ j. one (is_changed n at size t j)) ≡ parts_in n at size t + 1
   changed-all =
-      sum_same (λ j. if is_changed n at size t j then 1 else 0) (own (λ k. cond (has_part at size (t * (n - 1) + k)) 1 0) 1 (parity_of n t)) n
+      sum_same (λ j. one (is_changed n at size t j)) (own (λ k. cond (has_part at size (t * (n - 1) + k)) 1 0) 1 (parity_of n t)) n
       (λ j lt. or-one (j == parity_of n t) (has_part at size (chunk_on n t j)))
       ∙ omega (arith, all-sum (λ k. cond (has_part at size (t * (n - 1) + k)) 1 0) 1 (parity_of n t) n (omega (arith, least)) parity-low)
 
-  left-all : sum_upto n (λ j. if is_left n at size t j then 1 else 0) ≡ n - 1 - wholes_in n at size t
+  left-all : sum_upto n (λ j. one (is_left n at size t j)) ≡ n - 1 - wholes_in n at size t
   left-all =
-      sum_same (λ j. if is_left n at size t j then 1 else 0) (own (λ k. cond (not (has_all at size (t * (n - 1) + k))) 1 0) 0 (parity_of n t)) n
+      sum_same (λ j. one (is_left n at size t j)) (own (λ k. cond (not (has_all at size (t * (n - 1) + k))) 1 0) 0 (parity_of n t)) n
       (λ j lt. or-none (j == parity_of n t) (has_all at size (chunk_on n t j)))
       ∙ omega (
         arith,
@@ -89,14 +92,14 @@ module _ (n : ℕ) (out : ℕ → Bool) (at size t : ℕ) (least : 3 ≤ n) (in0
         rest-count (λ k. has_all at size (t * (n - 1) + k)) (n - 1),
       )
 
-  get-one : (by : Bool) (j : ℕ) → j < n → reads_on n out at size t by j ≡ (if is_read n at size t by j then 1 else 0)
+  get-one : (by : Bool) (j : ℕ) → j < n → reads_on n out at size t by j ≡ one (is_read n at size t by j)
   get-one by j lt = ap (λ (x : ℕ). if is_read n at size t by j then x else 0) (get-in n out j (in0 j lt))
 
   by-parts : reads_by n out at size t true ≡ parts_in n at size t + 1
-  by-parts = sum_same (reads_on n out at size t true) (λ j. if is_changed n at size t j then 1 else 0) n (get-one true) ∙ changed-all
+  by-parts = sum_same (reads_on n out at size t true) (λ j. one (is_changed n at size t j)) n (get-one true) ∙ changed-all
 
   by-rest : reads_by n out at size t false ≡ n - 1 - wholes_in n at size t
-  by-rest = sum_same (reads_on n out at size t false) (λ j. if is_left n at size t j then 1 else 0) n (get-one false) ∙ left-all
+  by-rest = sum_same (reads_on n out at size t false) (λ j. one (is_left n at size t j)) n (get-one false) ∙ left-all
 
   pub least-chunks : least_reads n out at size t ≡ min (parts_in n at size t + 1) (n - 1 - wholes_in n at size t)
   least-chunks =
@@ -106,4 +109,4 @@ module _ (n : ℕ) (out : ℕ → Bool) (at size t : ℕ) (least : 3 ≤ n) (in0
 
   pub writes-chunks : writes_in n out at size t ≡ parts_in n at size t + 1
   writes-chunks =
-      sum_same (writes_on n out at size t) (λ j. if is_changed n at size t j then 1 else 0) n (λ j lt. and-in (is_changed n at size t j) (out j) (in0 j lt)) ∙ changed-all
+      sum_same (writes_on n out at size t) (λ j. one (is_changed n at size t j)) n (λ j lt. and-in (is_changed n at size t j) (out j) (in0 j lt)) ∙ changed-all
