@@ -8,7 +8,7 @@ use Rattle.dg_model.specs.Moves.{count_upto, sum_upto}
 use Rattle.dg_model.proofs.SumLaws.{sum_same}
 use Rattle.dg_parity.specs.Runs.{among, chunk_on}
 use Rattle.dg_parity.specs.Stripes.{parity_of}
-use Rattle.dg_parity.specs.Updates.{has_all, has_part, is_changed, is_left, is_read, least_reads, parts_in, reads_by, reads_on, reads_to_get, wholes_in, writes_in, writes_on}
+use Rattle.dg_parity.specs.Updates.{has_all, has_part, is_changed, is_left, is_read, least_reads, parts_in, reads_by, reads_on, wholes_in, writes_in, writes_on}
 use Rattle.dg_parity.proofs.UpdateLemmas.{get-in}
 
 -- ---- a sum over all disks is what the disk with the parity has, and that of the chunks of the others

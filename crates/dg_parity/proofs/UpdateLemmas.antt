@@ -1,15 +1,15 @@
 -- How many calls a write takes: calls one after the other, the reads of a stripe, and the writes of a disk.
-use Rattle.std.proofs.Common.{◌≡◌, ◌≢◌, ℕ, zero, suc, ◌+◌, ◌-◌, ◌*◌, ◌/◌, ◌%◌, ◌<◌, ◌≤◌, ◌⊎◌, inl, inr, Bool, true, false, refl, sym, ap, subst, ◌∙◌, arith}
-use Rattle.std.specs.Prelude.{◌&&◌, ◌||◌, ◌==◌, min, nat_le, nat_lt, not, if◌then◌else◌}
+use Rattle.std.proofs.Common.{◌≡◌, ℕ, zero, suc, ◌+◌, ◌-◌, ◌*◌, ◌/◌, ◌%◌, ◌<◌, ◌≤◌, inl, inr, Bool, true, false, refl, sym, ap, subst, ◌∙◌, arith}
+use Rattle.std.specs.Prelude.{◌&&◌, min, nat_lt, not, if◌then◌else◌}
 use Rattle.std.proofs.lemmas.Bool.{cases_Bool, cases_eq}
 use Rattle.std.proofs.lemmas.Bool.Decides.{nat_tests}
 use Rattle.dg_io.specs.declared.outside.Rack.{Ghosts}
 use Rattle.dg_model.specs.Moves.{sum_upto}
 use Rattle.dg_model.proofs.SumLaws.{term_le}
-use Rattle.dg_parity.specs.Groups.{is_out, FellOne, IsLater, MostCalls, StaysOrFell}
+use Rattle.dg_parity.specs.Groups.{IsLater, MostCalls, StaysOrFell}
 use Rattle.dg_parity.specs.Runs.{byte_in, chunk_on, IsSpan, IsWindow}
 use Rattle.dg_parity.specs.Stripes.{parity_of, stripe_of}
-use Rattle.dg_parity.specs.Updates.{has_part, is_changed, is_read, least_reads, reads_by, reads_on, reads_to_get, stripes_in, writes_on, StaysWithin}
+use Rattle.dg_parity.specs.Updates.{is_changed, is_read, least_reads, reads_by, reads_on, reads_to_get, stripes_in, writes_on, StaysWithin}
 use Rattle.dg_parity.specs.declared.groups.Group.{Group}
 use Rattle.dg_parity.specs.declared.windows.Window.{Window}
 use Rattle.dg_parity.proofs.RunSteps.{fell-from, fell-later}

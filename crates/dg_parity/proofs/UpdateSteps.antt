@@ -11,8 +11,7 @@ use Rattle.dg_model.proofs.SumLaws.{sum_more, sum_same}
 use Rattle.dg_parity.specs.Groups.{is_out, FellOne, IsLater, MostCalls}
 use Rattle.dg_parity.specs.Runs.{among, begins, chunk_on, passes_in, IsWindow}
 use Rattle.dg_parity.specs.Stripes.{parity_of, stripe_of}
-use Rattle.dg_parity.specs.Updates.{has_all, has_part, is_changed, is_left, is_read, least_reads, reads_by, reads_for, reads_on, reads_to_get, stripes_in, writes_for, writes_in, writes_on}
-use Rattle.dg_parity.specs.Updates.{CallsLeast, StaysLeast, StaysWithin}
+use Rattle.dg_parity.specs.Updates.{has_all, has_part, is_changed, is_left, is_read, least_reads, reads_by, reads_for, reads_on, reads_to_get, stripes_in, writes_for, writes_in, writes_on, CallsLeast, StaysLeast, StaysWithin}
 use Rattle.dg_parity.specs.declared.groups.Group.{Group}
 use Rattle.dg_parity.specs.declared.windows.Window.{Window}
 use Rattle.dg_parity.proofs.CountLemmas.{mul-next}
@@ -36,10 +35,13 @@ window-least rack a b c s u v at size some later (inl reads) (inr fell) calls = 
 window-least rack a b c s u v at size some later (inl reads) (inl writes) calls =
     let n = a.disks in
     let one : n * 1 ≤ n * passes_in n at size = mul-le-mul_left n (pass-some n at size some) in
-    inl (writes.0 ∙ reads.0, record {
-      passes = omega (arith, reads.1, calls, one, mul-one n, ap (λ (k : Group). k.disks) reads.0);
-      stripes = omega (arith, reads.1, writes.1, ap (λ (k : Group). writes_for k.disks (is_out k) at size) reads.0);
-    })
+    inl (
+      writes.0 ∙ reads.0,
+      record {
+        passes = omega (arith, reads.1, calls, one, mul-one n, ap (λ (k : Group). k.disks) reads.0);
+        stripes = omega (arith, reads.1, writes.1, ap (λ (k : Group). writes_for k.disks (is_out k) at size) reads.0);
+      },
+    )
 
 -- ---- a stripe takes as much in its pass as in the whole write
 
@@ -282,9 +284,11 @@ pub least-then : {S : Type 0} (rack : Ghosts S) (place size all rest next done p
 least-then rack place size all rest next done part a b c s t u some fits more cut end near later step (inr fell) = inr (fell-later a b c later fell)
 least-then rack place size all rest next done part a b c s t u some fits more cut end near later (inr fell) (inl same) = inr (fell-from a b c same.0 fell)
 least-then rack place size all rest next done part a b c s t u some fits more cut end near later (inl still) (inl same) =
-    inl (still.0 ∙ same.0,
-    least-next rack a.disks (is_out a) place size all rest next done part s t u a.least some fits more cut end near
-    (subst (λ (k : Group). CallsLeast rack k.disks (is_out k) (place + done) part t u) same.0 still.1) same.1)
+    inl (
+      still.0 ∙ same.0,
+      least-next rack a.disks (is_out a) place size all rest next done part s t u a.least some fits more cut end near
+          (subst (λ (k : Group). CallsLeast rack k.disks (is_out k) (place + done) part t u) same.0 still.1) same.1,
+    )
 
 pub least-all : {S : Type 0} (rack : Ghosts S) (place size rest done : ℕ) (a b : Group) (s u : S) → done ≡ size
     → ((b ≡ a) × IsLeast rack a.disks (is_out a) place size (passes_in a.disks place size) rest done s u) ⊎ FellOne a b

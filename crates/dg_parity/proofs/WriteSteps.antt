@@ -1,11 +1,10 @@
 -- Writes of runs of chunks: what each stripe takes of calls.
-use Rattle.std.proofs.Common.{◌≡◌, ◌≢◌, ℕ, ◌+◌, ◌-◌, ◌*◌, ◌/◌, ◌%◌, ◌<◌, ◌≤◌, ◌⊎◌, inl, inr, Bool, true, false, refl, ap, subst, ◌∙◌, arith}
+use Rattle.std.proofs.Common.{◌≡◌, ◌≢◌, ℕ, ◌+◌, ◌-◌, ◌*◌, ◌/◌, ◌%◌, ◌<◌, ◌≤◌, ◌⊎◌, inl, inr, Bool, true, false, refl, ap, subst, ◌∙◌, arith, add-zero}
 use Rattle.std.specs.Prelude.{◌==◌, if◌then◌else◌}
 use Rattle.std.proofs.lemmas.Bool.{cases_eq, cases_lt, cases_Bool, and_parts}
 use Rattle.std.proofs.lemmas.Bool.Decides.{nat_tests}
 use Rattle.std.proofs.lemmas.Nat.{div-add-mod', mod_below}
 use Rattle.std.proofs.Math.Nat.{mul-add, mul-one, mul-le-mul_left, add-mul, mul-le-mul_right, one-mul}
-use Rattle.std.proofs.Common.{add-zero}
 use Rattle.dg_parity.specs.Runs.{begins, passes_in, reads_at, IsWhole, IsWindow}
 use Rattle.dg_parity.specs.declared.windows.Window.{Window}
 

@@ -4,8 +4,7 @@ use Rattle.dg_io.specs.Told.{Patched, Torn}
 use Rattle.dg_parity.proofs.ArrayLemmas.{calls-at, fails-past, none-back, served-call, serves-is, steps-one, told-own}
 use Rattle.dg_parity.specs.ArrayCalls.{quiet_writes_of, writes_of}
 use Rattle.dg_parity.specs.declared.groups.Group.{Group}
-use Rattle.dg_parity.proofs.GoesOnLemmas.{goes-one, none-fell, noted-at, was-noted}
-use Rattle.dg_parity.proofs.GoesOnLemmas.{least-at}
+use Rattle.dg_parity.proofs.GoesOnLemmas.{goes-one, none-fell, noted-at, was-noted, least-at}
 use Rattle.dg_parity.proofs.group_calls.write_at.Goals as goal
 
 pub returns-then-not-write-clause-steps : goal.returns-then-not-write-clause-steps

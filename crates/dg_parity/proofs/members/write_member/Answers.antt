@@ -1,18 +1,15 @@
-use Rattle.std.proofs.Common.{◌≡◌, ◌+◌, ◌-◌, ◌/◌, ◌<◌, ◌⊎◌, ℕ, List, length, take, drop, true, refl, sym, subst, ◌∙◌, arith}
+use Rattle.std.proofs.Common.{◌≡◌, ◌+◌, ◌-◌, ◌/◌, ◌<◌, ◌⊎◌, ℕ, List, length, take, drop, true, refl, sym, subst, ◌∙◌, arith, inl}
 use Rattle.dg_io.specs.Told.{patch}
 use Rattle.dg_parity.specs.Runs.{begins, passes_in, reads_at}
 use Rattle.dg_parity.specs.Stripes.{stripe_of}
 use Rattle.std.proofs.lemmas.List.{length-take-le, length-drop}
-use Rattle.dg_parity.specs.Groups.{MostCalls, StandsFor}
+use Rattle.dg_parity.specs.Groups.{MostCalls, StandsFor, is_out}
 use Rattle.dg_parity.proofs.GroupLemmas.{leaves-then, leaves_none}
 use Rattle.dg_parity.proofs.CallLemmas.{told-back}
 use Rattle.dg_parity.proofs.MemberSteps.{stands-next, stands-length, not-true}
-use Rattle.dg_parity.proofs.RunSteps.{pass-next}
+use Rattle.dg_parity.proofs.RunSteps.{pass-next, stays-then}
 use Rattle.dg_parity.proofs.LaidSteps.{patch-none}
 use Rattle.dg_parity.proofs.WriteSteps.{IsPut, put-none, put-next, cut-next}
-use Rattle.dg_parity.proofs.RunSteps.{stays-then}
-use Rattle.std.proofs.Common.{inl}
-use Rattle.dg_parity.specs.Groups.{is_out}
 use Rattle.dg_parity.specs.Updates.{StaysLeast}
 use Rattle.dg_parity.proofs.UpdateSteps.{least-all, least-none, least-then}
 use Rattle.dg_parity.proofs.members.write_member.Goals as goal

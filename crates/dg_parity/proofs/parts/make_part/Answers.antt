@@ -1,12 +1,10 @@
-use Rattle.std.proofs.Common.{sym, ap, ◌∙◌, arith, length}
+use Rattle.std.proofs.Common.{sym, ap, ◌∙◌, arith, length, inl}
 use Rattle.std.specs.Prelude.{not}
 use Rattle.dg_parity.specs.Groups.{is_lost}
 use Rattle.dg_parity.specs.declared.groups.Group.{Group}
 use Rattle.dg_parity.proofs.PartLemmas.{others-in}
 use Rattle.dg_parity.proofs.CallLemmas.{lost-by}
-use Rattle.dg_parity.proofs.RunSteps.{right-made, in-most}
-use Rattle.std.proofs.Common.{inl}
-use Rattle.dg_parity.proofs.RunSteps.{in-few}
+use Rattle.dg_parity.proofs.RunSteps.{right-made, in-most, in-few}
 use Rattle.dg_parity.proofs.parts.make_part.Goals as goal
 
 pub add_others-requires-clause-there : goal.add_others-requires-clause-there

@@ -1,7 +1,6 @@
-use Rattle.std.proofs.Common.{ℕ, subst, arith}
+use Rattle.std.proofs.Common.{ℕ, subst, arith, inl, inr, sym, ◌∙◌}
 use Rattle.dg_parity.proofs.GroupLemmas.{leaves-then}
 use Rattle.dg_parity.proofs.CallLemmas.{told-back, holds-then, even-later}
-use Rattle.std.proofs.Common.{inl, inr, sym, ◌∙◌}
 use Rattle.dg_parity.proofs.RunSteps.{fell-later}
 use Rattle.std.specs.Bool.{OnTrue}
 use Rattle.dg_parity.specs.Groups.{is_out}
@@ -48,8 +47,10 @@ returns-then-is_out-clause-few g c =
 
 pub returns-then-read_disk-clause-few : goal.returns-then-read_disk-clause-few
 returns-then-read_disk-clause-few g c =
-    inl (c.if-read_disk.ensures.done,
-    omega (arith, c.read_disk.ensures.calls, get-in c.args.group.now.disks (is_out c.args.group.now) c.args.j (sym c.is_out.ensures ∙ c.if-is_out.false)))
+    inl (
+      c.if-read_disk.ensures.done,
+      omega (arith, c.read_disk.ensures.calls, get-in c.args.group.now.disks (is_out c.args.group.now) c.args.j (sym c.is_out.ensures ∙ c.if-is_out.false)),
+    )
 
 pub returns-clause-few : goal.returns-clause-few
 returns-clause-few g c =

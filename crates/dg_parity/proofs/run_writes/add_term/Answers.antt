@@ -1,4 +1,4 @@
-use Rattle.std.proofs.Common.{ℕ, length, inl, inr, sym, subst, ◌∙◌, arith}
+use Rattle.std.proofs.Common.{ℕ, length, inl, inr, sym, subst, ◌∙◌, arith, refl}
 use Rattle.std.proofs.lemmas.Bool.{cases_eq, false≢true}
 use Rattle.dg_io.specs.Told.{patch}
 use Rattle.dg_parity.specs.Stripes.{parity_of}
@@ -6,7 +6,6 @@ use Rattle.dg_parity.specs.Runs.{laid, ChangesPage}
 use Rattle.dg_parity.proofs.LaidLemmas.{laid-even, term-added}
 use Rattle.dg_parity.proofs.LaidSteps.{patched}
 use Rattle.dg_parity.proofs.RowLemmas.{whole-covers}
-use Rattle.std.proofs.Common.{refl}
 use Rattle.dg_parity.specs.Groups.{is_out}
 use Rattle.dg_parity.proofs.UpdateLemmas.{reads-needed, within-is, within-none}
 use Rattle.dg_parity.proofs.run_writes.add_term.Goals as goal

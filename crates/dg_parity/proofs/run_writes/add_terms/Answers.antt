@@ -1,7 +1,7 @@
 use Rattle.std.specs.Int.Bits.{xor_zero_r}
 use Rattle.std.proofs.Common.{inl, ◌≡◌, ◌+◌, ◌*◌, ◌<◌, ◌≤◌, ℕ, length, refl, sym, subst, ◌∙◌, arith, get_or, bit_xor}
 use Rattle.dg_io.specs.Told.{patch}
-use Rattle.dg_parity.specs.Groups.{Holds}
+use Rattle.dg_parity.specs.Groups.{Holds, is_out}
 use Rattle.dg_parity.specs.Runs.{IsWhole, laid, term_of}
 use Rattle.std.proofs.Math.Nat.{mul-le-mul_left}
 use Rattle.dg_parity.specs.Exclusive.{xor_upto}
@@ -11,7 +11,6 @@ use Rattle.dg_parity.proofs.CallLemmas.{holds-then, told-back, added-more}
 use Rattle.dg_parity.proofs.MemberSteps.{not-true}
 use Rattle.dg_parity.proofs.RunSteps.{stays-then}
 use Rattle.dg_model.specs.Moves.{sum_upto}
-use Rattle.dg_parity.specs.Groups.{is_out}
 use Rattle.dg_parity.specs.Updates.{reads_on, StaysWithin}
 use Rattle.dg_parity.specs.declared.groups.Group.{Group}
 use Rattle.dg_model.proofs.SumLaws.{sum_more}

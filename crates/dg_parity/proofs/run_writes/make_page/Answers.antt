@@ -1,4 +1,4 @@
-use Rattle.std.proofs.Common.{ℕ, sym, ap, ◌∙◌, arith, bit_xor}
+use Rattle.std.proofs.Common.{ℕ, sym, ap, ◌∙◌, arith, bit_xor, inl, refl, length}
 use Rattle.std.proofs.lemmas.Bool.{false≢true}
 use Rattle.std.specs.Int.Bits.{xor_zero_l}
 use Rattle.dg_io.specs.Told.{patch}
@@ -6,8 +6,6 @@ use Rattle.dg_parity.specs.Exclusive.{xor_upto}
 use Rattle.dg_parity.specs.Groups.{is_out}
 use Rattle.dg_parity.specs.Runs.{term_of}
 use Rattle.dg_parity.proofs.LaidLemmas.{page-made}
-use Rattle.std.proofs.Common.{inl, refl}
-use Rattle.std.proofs.Common.{length}
 use Rattle.dg_parity.proofs.UpdateLemmas.{least-is, within-is, within-none}
 use Rattle.dg_parity.proofs.run_writes.make_page.Goals as goal
 

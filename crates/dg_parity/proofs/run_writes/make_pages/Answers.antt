@@ -9,14 +9,12 @@ use Rattle.dg_parity.specs.Runs.{laid, IsPage, IsWhole}
 use Rattle.dg_parity.proofs.GroupLemmas.{leaves-then, leaves_none, in-before, same-length}
 use Rattle.dg_parity.proofs.CallLemmas.{told-back, holds-then}
 use Rattle.dg_parity.proofs.MemberSteps.{mid-before, mid-inside, not-true}
-use Rattle.dg_parity.proofs.RunSteps.{window-below, window-small, idle-calls}
+use Rattle.dg_parity.proofs.RunSteps.{window-below, window-small, idle-calls, stays-then}
 use Rattle.dg_parity.proofs.WriteSteps.{read-none, read-next, whole-is}
-use Rattle.dg_parity.proofs.RunSteps.{stays-then}
-use Rattle.dg_parity.specs.Updates.{least_reads}
+use Rattle.dg_parity.specs.Updates.{least_reads, StaysWithin}
 use Rattle.dg_parity.specs.declared.groups.Group.{Group}
 use Rattle.dg_model.proofs.SumLaws.{sum_more}
 use Rattle.dg_model.specs.Moves.{sum_upto}
-use Rattle.dg_parity.specs.Updates.{StaysWithin}
 use Rattle.dg_parity.proofs.UpdateLemmas.{window-sum, within-is, within-none, within-then}
 use Rattle.dg_parity.proofs.run_writes.make_pages.Goals as goal
 

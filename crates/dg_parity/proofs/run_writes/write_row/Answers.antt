@@ -1,5 +1,5 @@
 use Rattle.std.proofs.lemmas.List.{length-take-le}
-use Rattle.std.proofs.Common.{◌≡◌, ◌∙◌, ◌+◌, ◌-◌, ◌*◌, length, take, drop, refl, arith}
+use Rattle.std.proofs.Common.{◌≡◌, ◌∙◌, ◌+◌, ◌-◌, ◌*◌, length, take, drop, refl, arith, inl}
 use Rattle.dg_io.specs.Told.{patch}
 use Rattle.dg_parity.specs.Groups.{is_out}
 use Rattle.dg_parity.specs.Stripes.{put}
@@ -7,7 +7,6 @@ use Rattle.dg_parity.specs.Runs.{mixed}
 use Rattle.dg_parity.proofs.GroupLemmas.{later-same}
 use Rattle.dg_parity.proofs.HoldLemmas.{put-other}
 use Rattle.dg_parity.proofs.LaidSteps.{patched, row-own, row-none, row-put, pages-of}
-use Rattle.std.proofs.Common.{inl}
 use Rattle.dg_parity.proofs.UpdateLemmas.{row-calls}
 use Rattle.dg_parity.proofs.run_writes.write_row.Goals as goal
 

@@ -1,4 +1,4 @@
-use Rattle.std.proofs.Common.{◌+◌, ◌<◌, ◌≡◌, ℕ, length, refl, sym, subst, ◌∙◌, arith}
+use Rattle.std.proofs.Common.{◌+◌, ◌<◌, ◌≡◌, ℕ, length, refl, sym, subst, ◌∙◌, arith, inl, ap}
 use Rattle.dg_io.specs.Told.{patch}
 use Rattle.dg_parity.specs.Groups.{is_out, Holds}
 use Rattle.dg_parity.specs.Runs.{mixed, ArePages, IsWindow}
@@ -6,13 +6,11 @@ use Rattle.dg_parity.proofs.GroupLemmas.{leaves-then, leaves_none, in-before}
 use Rattle.dg_parity.proofs.CallLemmas.{told-back}
 use Rattle.dg_parity.proofs.LaidSteps.{laid-mixed, mixed-laid}
 use Rattle.dg_parity.proofs.RunSteps.{stays-then}
-use Rattle.std.proofs.Common.{inl}
 use Rattle.dg_parity.specs.Updates.{writes_in, writes_on, StaysWithin}
 use Rattle.dg_parity.specs.declared.groups.Group.{Group}
 use Rattle.dg_model.specs.Moves.{sum_upto}
 use Rattle.dg_model.proofs.SumLaws.{sum_more, sum_swap}
 use Rattle.dg_parity.proofs.UpdateLemmas.{window-sum, within-is, within-none, within-of, within-then}
-use Rattle.std.proofs.Common.{ap}
 use Rattle.dg_parity.proofs.run_writes.write_rows.Goals as goal
 
 pub write_row-requires : goal.write_row-requires

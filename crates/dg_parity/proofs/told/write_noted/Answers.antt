@@ -1,10 +1,9 @@
-use Rattle.std.proofs.Common.{◌+◌, ◌≤◌, ℕ, false, length, sym, subst, ◌∙◌, arith}
+use Rattle.std.proofs.Common.{◌+◌, ◌≤◌, ℕ, false, length, sym, subst, ◌∙◌, arith, ◌≡◌, ap}
 use Rattle.dg_parity.proofs.WriteSteps.{put-noted}
 use Rattle.dg_io.specs.Told.{patch}
 use Rattle.dg_parity.proofs.GroupLemmas.{leaves-then}
 use Rattle.dg_parity.proofs.CallLemmas.{told-back}
 use Rattle.dg_parity.proofs.MemberSteps.{stands-noted}
-use Rattle.std.proofs.Common.{◌≡◌, ap}
 use Rattle.dg_parity.specs.Groups.{is_out}
 use Rattle.dg_parity.specs.Kept.{quiet_calls_to_write}
 use Rattle.dg_parity.specs.declared.groups.Group.{Group}

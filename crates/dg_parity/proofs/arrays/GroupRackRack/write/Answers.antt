@@ -5,10 +5,9 @@ use Rattle.dg_io.specs.RackWords.{Leaves}
 use Rattle.dg_io.specs.Told.{IsHeader, OldOrNew, Patched, Told, Torn}
 use Rattle.dg_model.specs.Causes.{RoseByOne}
 use Rattle.dg_parity.proofs.ArraySteps.{err_on, held_after, leaves_grouped, made_grouped, tally_of}
-use Rattle.dg_parity.specs.ArrayCalls.{quiet_writes_of, writes_of}
+use Rattle.dg_parity.specs.ArrayCalls.{quiet_writes_of, writes_of, LeastOf}
 use Rattle.dg_parity.specs.Groups.{MostCalls}
 use Rattle.dg_parity.specs.Arrays.{group_at, Grouped, GroupedMade, grouped_bytes, grouped_words, IsShaped, serves, size_at, GoesOn, NoneFell, is_noted}
-use Rattle.dg_parity.specs.ArrayCalls.{LeastOf}
 use Rattle.dg_parity.proofs.arrays.GroupRackRack.write.Goals as goal
 
 pub write_at-result-requires : goal.write_at-result-requires

@@ -4,13 +4,12 @@ use Rattle.dg_io.specs.RackCalls.RackCall.{calls}
 use Rattle.dg_io.specs.RackWords.{Leaves}
 use Rattle.dg_io.specs.Told.{IsHeader, OldOrNew, Patched, Told, Torn}
 use Rattle.dg_model.specs.Causes.{RoseByOne}
-use Rattle.dg_parity.specs.ArrayCalls.{RackGoesOn, WritesBehind, WritesQuietly}
+use Rattle.dg_parity.specs.ArrayCalls.{RackGoesOn, WritesBehind, WritesQuietly, WritesLeast}
 use Rattle.dg_parity.specs.ParityLaws.{grouped_leaves, grouped_made, plain_made, plain_leaves}
 use Rattle.dg_parity.specs.ParityRacks.{ParityMade, parity_bytes, parity_counts, parity_stands, parity_steady, parity_words, IsNoted, IsServed, IsShaped, IsUnserved, IsPast}
 use Rattle.dg_parity.specs.declared.parity_racks.ParityRack.{ParityRack}
 use Rattle.dg_parity.specs.declared.parity_racks.ParityRack.TheVariants.{Plain, OfGroups}
 use Rattle.dg_parity.proofs.ArraySteps.{ok_on, err_on}
-use Rattle.dg_parity.specs.ArrayCalls.{WritesLeast}
 use Rattle.dg_parity.proofs.parity_racks.ParityRackRack.write.Goals as goal
 
 pub write-requires-clause-stands : goal.write-requires-clause-stands
