@@ -11,7 +11,7 @@ use Rattle.dg_parity.proofs.CallLemmas.{told-back, holds-then}
 use Rattle.dg_parity.proofs.MemberSteps.{mid-before, mid-inside, not-true}
 use Rattle.dg_parity.proofs.RunSteps.{window-below, window-small, idle-calls, stays-then}
 use Rattle.dg_parity.proofs.WriteSteps.{read-none, read-next, whole-is}
-use Rattle.dg_parity.specs.Updates.{least_reads, StaysWithin}
+use Rattle.dg_parity.specs.Updates.{least_reads}
 use Rattle.dg_parity.specs.declared.groups.Group.{Group}
 use Rattle.dg_model.proofs.SumLaws.{sum_more}
 use Rattle.dg_model.specs.Moves.{sum_upto}

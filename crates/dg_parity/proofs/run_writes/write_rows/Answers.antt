@@ -6,7 +6,7 @@ use Rattle.dg_parity.proofs.GroupLemmas.{leaves-then, leaves_none, in-before}
 use Rattle.dg_parity.proofs.CallLemmas.{told-back}
 use Rattle.dg_parity.proofs.LaidSteps.{laid-mixed, mixed-laid}
 use Rattle.dg_parity.proofs.RunSteps.{stays-then}
-use Rattle.dg_parity.specs.Updates.{writes_in, writes_on, StaysWithin}
+use Rattle.dg_parity.specs.Updates.{writes_in, writes_on}
 use Rattle.dg_parity.specs.declared.groups.Group.{Group}
 use Rattle.dg_model.specs.Moves.{sum_upto}
 use Rattle.dg_model.proofs.SumLaws.{sum_more, sum_swap}
