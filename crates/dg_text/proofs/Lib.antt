@@ -13,3 +13,5 @@ mod FileLines
 mod HexLineSteps
 mod Spellings
 mod ReplyLines
+mod Pieces
+mod CallSums
