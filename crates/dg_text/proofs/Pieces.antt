@@ -1,6 +1,7 @@
 -- Lines that are written in pieces.
-use Rattle.std.proofs.Common.{◌≡◌, ◌<◌, ◌≤◌, ◌+◌, ◌-◌, ◌/◌, ℕ, List, [], ◌++◌, length, length-append, sym, ◌∙◌, ap, subst, append_assoc, arith}
-use Rattle.std.specs.Prelude.{codes}
+use Rattle.std.proofs.Common.{◌≡◌, ◌<◌, ◌≤◌, ◌+◌, ◌-◌, ◌/◌, ℕ, List, [], ◌++◌, drop, length, length-append, sym, ◌∙◌, ap, subst, append_assoc, arith}
+use Rattle.std.specs.Prelude.{codes, slice_range}
+use Rattle.std.proofs.lemmas.List.{length-drop, take_all}
 use Rattle.std.proofs.Math.Nat.{add-div_right, div-eq_of_lt}
 use Rattle.dg_io.specs.SinkCalls.{LeavesSink}
 use Rattle.dg_io.specs.Told.{Told, Took, TookPart}
@@ -18,6 +19,10 @@ pub pieces_more : (most n rest : ℕ) → 0 < most → 0 < rest → n ≡ most +
 pieces_more most n rest some left is =
     let less : n - 1 ≡ (rest - 1) + most = omega arith in
     ap (λ (k : ℕ). k / most + 1) less ∙ ap (λ (k : ℕ). k + 1) (add-div_right (rest - 1) some)
+
+-- what is left of bytes from a place on
+pub to_end : (at : ℕ) (bytes : List ℕ) → slice_range bytes at (length bytes) ≡ drop at bytes
+to_end at bytes = take_all (length bytes - at) (drop at bytes) (omega (arith, length-drop at bytes))
 
 -- Some pieces of a line are written: what of it was put out, and by how many calls. Still to come are what stands in front of the rest, the rest as
 -- it is spelled, and the LF.
@@ -38,46 +43,46 @@ module _ {K : Type 0} (sink : Ghosts K) (spell : List ℕ → List ℕ) (both : 
     whole = sym is;
     told = took_none (sink.taken start);
     calls = leaves_none sink.whole sink.calls start;
-    left = sym counted;
+    left = omega (arith, counted);
   }
 
   -- the text from the next piece on
-  from_piece : (front rest first back : List ℕ) → rest ≡ first ++ back
-      → (front ++ spell first) ++ (spell back ++ codes "\n") ≡ front ++ (spell rest ++ codes "\n")
-  from_piece front rest first back is =
-      append_assoc front (spell first) (spell back ++ codes "\n")
+  from_piece : (front rest first back line : List ℕ) → rest ≡ first ++ back → line ≡ front ++ spell first
+      → line ++ (spell back ++ codes "\n") ≡ front ++ (spell rest ++ codes "\n")
+  from_piece front rest first back line is same =
+      ap (λ (l : List ℕ). l ++ (spell back ++ codes "\n")) same ∙ append_assoc front (spell first) (spell back ++ codes "\n")
       ∙ ap (λ (l : List ℕ). front ++ l) (sym (append_assoc (spell first) (spell back) (codes "\n")) ∙ ap (λ (l : List ℕ). l ++ codes "\n") (sym (both first back) ∙ ap spell (sym is)))
 
   -- the next piece is written
-  pub goes_on : (front rest first back : List ℕ) (now next : K) → 0 < most → rest ≡ first ++ back → length first ≡ most → 0 < length back
-      → Goes sink spell most text count start front rest now
-      → Told (Took (front ++ spell first)) (sink.taken now) (sink.taken next)
-      → LeavesSink sink.whole sink.calls 1 (length (front ++ spell first)) now next
+  pub goes_on : (front rest first back line : List ℕ) (now next : K) → 0 < most → rest ≡ first ++ back → length first ≡ most → 0 < length back
+      → line ≡ front ++ spell first → Goes sink spell most text count start front rest now
+      → Told (Took line) (sink.taken now) (sink.taken next) → LeavesSink sink.whole sink.calls 1 (length line) now next
       → Goes sink spell most text count start [] back next
-  goes_on front rest first back now next some is full more goes told calls =
+  goes_on front rest first back line now next some is full more same goes told calls =
       let size : length rest ≡ most + length back = ap length is ∙ length-append first back ∙ ap (λ (k : ℕ). k + length back) full in
       let fewer = pieces_more most (length rest) (length back) some more size in
       record {
-        done = goes.done ++ (front ++ spell first);
+        done = goes.done ++ line;
         few = goes.few + 1;
         whole =
-            append_assoc goes.done (front ++ spell first) (spell back ++ codes "\n")
-            ∙ ap (λ (l : List ℕ). goes.done ++ l) (from_piece front rest first back is) ∙ goes.whole;
-        told = took_both goes.done (front ++ spell first) (sink.taken start) (sink.taken now) (sink.taken next) goes.told told;
-        calls = leaves_more sink.whole sink.calls _ _ (goes.few + 1) (length (goes.done ++ (front ++ spell first))) start next
-            (omega arith) (omega (arith, length-append goes.done (front ++ spell first)))
-            (leaves_both sink.whole sink.calls goes.few (length goes.done) 1 (length (front ++ spell first)) start now next goes.calls calls);
+            append_assoc goes.done line (spell back ++ codes "\n")
+            ∙ ap (λ (l : List ℕ). goes.done ++ l) (from_piece front rest first back line is same) ∙ goes.whole;
+        told = took_both goes.done line (sink.taken start) (sink.taken now) (sink.taken next) goes.told told;
+        calls = leaves_more sink.whole sink.calls _ _ (goes.few + 1) (length (goes.done ++ line)) start next
+            (omega arith) (omega (arith, length-append goes.done line))
+            (leaves_both sink.whole sink.calls goes.few (length goes.done) 1 (length line) start now next goes.calls calls);
         left = omega (arith, fewer, goes.left);
       }
 
   -- a part of it is written
-  pub goes_part : (front rest first back : List ℕ) (now next : K) → rest ≡ first ++ back → Goes sink spell most text count start front rest now
-      → Told (TookPart (front ++ spell first)) (sink.taken now) (sink.taken next) → Told (TookPart text) (sink.taken start) (sink.taken next)
-  goes_part front rest first back now next is goes told =
-      let more = took_part_of_more (front ++ spell first) (spell back ++ codes "\n") (sink.taken now) (sink.taken next) told in
+  pub goes_part : (front rest first back line : List ℕ) (now next : K) → rest ≡ first ++ back → line ≡ front ++ spell first
+      → Goes sink spell most text count start front rest now → Told (TookPart line) (sink.taken now) (sink.taken next)
+      → Told (TookPart text) (sink.taken start) (sink.taken next)
+  goes_part front rest first back line now next is same goes told =
+      let more = took_part_of_more line (spell back ++ codes "\n") (sink.taken now) (sink.taken next) told in
       let P : List ℕ → Type 0 = λ l. Told (TookPart l) (sink.taken start) (sink.taken next) in
-      subst P (ap (λ (l : List ℕ). goes.done ++ l) (from_piece front rest first back is) ∙ goes.whole)
-      (took_part_after goes.done ((front ++ spell first) ++ (spell back ++ codes "\n")) (sink.taken start) (sink.taken now) (sink.taken next) goes.told more)
+      subst P (ap (λ (l : List ℕ). goes.done ++ l) (from_piece front rest first back line is same) ∙ goes.whole)
+      (took_part_after goes.done (line ++ (spell back ++ codes "\n")) (sink.taken start) (sink.taken now) (sink.taken next) goes.told more)
 
   -- one call more is made for a part of what is still to come
   pub goes_calls : (front rest piece : List ℕ) (now next : K) → length piece ≤ length (front ++ (spell rest ++ codes "\n"))
@@ -88,12 +93,12 @@ module _ {K : Type 0} (sink : Ghosts K) (spell : List ℕ → List ℕ) (both : 
       leaves_more sink.whole sink.calls _ _ count (length text) start next (omega (arith, goes.left)) (omega (arith, size, within))
       (leaves_both sink.whole sink.calls goes.few (length goes.done) 1 (length piece) start now next goes.calls calls)
 
-  pub goes_part_calls : (front rest first back : List ℕ) (now next : K) → rest ≡ first ++ back → Goes sink spell most text count start front rest now
-      → LeavesSink sink.whole sink.calls 1 (length (front ++ spell first)) now next → LeavesSink sink.whole sink.calls count (length text) start next
-  goes_part_calls front rest first back now next is goes calls =
-      let size = ap length (from_piece front rest first back is) in
-      goes_calls front rest (front ++ spell first) now next
-      (omega (arith, size, length-append (front ++ spell first) (spell back ++ codes "\n"))) goes calls
+  pub goes_part_calls : (front rest first back line : List ℕ) (now next : K) → rest ≡ first ++ back → line ≡ front ++ spell first
+      → Goes sink spell most text count start front rest now → LeavesSink sink.whole sink.calls 1 (length line) now next
+      → LeavesSink sink.whole sink.calls count (length text) start next
+  goes_part_calls front rest first back line now next is same goes calls =
+      let size = ap length (from_piece front rest first back line is same) in
+      goes_calls front rest line now next (omega (arith, size, length-append line (spell back ++ codes "\n"))) goes calls
 
   -- the last piece is written
   pub goes_last : (front rest line : List ℕ) (now next : K) → line ≡ front ++ (spell rest ++ codes "\n") → Goes sink spell most text count start front rest now
