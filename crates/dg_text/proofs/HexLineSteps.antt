@@ -13,8 +13,10 @@ use Rattle.dg_model.specs.Lists.{AreLines}
 use Rattle.dg_text.specs.Replies.{bytes_line, file_text}
 use Rattle.dg_text.specs.HexLines.{waiting, rest_lines, TookBytes, TookBytesPart, Ends, EndsPart}
 use Rattle.dg_text.specs.HexLineLaws.{waits_short}
+use Rattle.dg_text.specs.LineCalls.{bytes_calls}
 use Rattle.dg_text.specs.SinkCallSteps.{leaves_both, leaves_more}
 use Rattle.dg_text.specs.ToldSteps.{took_both, took_part_after}
+use Rattle.dg_text.proofs.Pieces.{pieces_one}
 use Rattle.dg_text.specs.declared.hex_lines.HexLines.{HexLines}
 
 -- ---- a line that is full
@@ -24,6 +26,12 @@ one_line line = append-nil (bytes_line line)
 
 full_line : (l : ℕ) (line : List ℕ) → length line ≡ l → All (λ (s : List ℕ). length s ≡ l) (line ∷ [])
 full_line l line full = All-cons (λ (s : List ℕ). length s ≡ l) line [] full (All-nil (λ (s : List ℕ). length s ≡ l))
+
+-- a line of no more bytes than a block is one call
+pub one_call : {K : Type 0} (sink : Ghosts K) (line : List ℕ) (a b : K) → length line ≤ 4096 → LeavesSink sink.whole sink.calls (bytes_calls line) (length (bytes_line line)) a b
+    → LeavesSink sink.whole sink.calls 1 (length (bytes_line line)) a b
+one_call sink line a b short calls =
+    subst (λ (n : ℕ). LeavesSink sink.whole sink.calls n (length (bytes_line line)) a b) (pieces_one 4096 (length line) (omega arith) short) calls
 
 pub line_written : {K : Type 0} (sink : Ghosts K) (old new : HexLines K) (front line : List ℕ) → new.l ≡ old.l → new.sink.ghost_name ≡ old.sink.ghost_name → new.used ≡ 0
     → line ≡ waiting old ++ front → length line ≡ old.l → Told (Took (bytes_line line)) (sink.taken old.sink.now) (sink.taken new.sink.now) → LeavesSink sink.whole sink.calls 1 (length (bytes_line line)) old.sink.now new.sink.now
@@ -71,6 +79,13 @@ line_part sink old new bytes line count l same is full told calls =
 pub rest_text_some : (rest : List ℕ) → 0 < length rest → file_text (rest_lines rest) ≡ bytes_line rest
 rest_text_some [] some = absurd (omega arith)
 rest_text_some (x ∷ rest) some = append-nil (bytes_line (x ∷ rest))
+
+pub rest_calls : {K : Type 0} (sink : Ghosts K) (rest : List ℕ) (a b : K) → 0 < length rest → length rest ≤ 4096
+    → LeavesSink sink.whole sink.calls (bytes_calls rest) (length (bytes_line rest)) a b
+    → LeavesSink sink.whole sink.calls (length (rest_lines rest)) (length (file_text (rest_lines rest))) a b
+rest_calls sink [] a b some short calls = absurd (omega (arith, some))
+rest_calls sink (x ∷ rest) a b some short calls =
+    subst (λ (text : List ℕ). LeavesSink sink.whole sink.calls 1 (length text) a b) (sym (rest_text_some (x ∷ rest) some)) (one_call sink (x ∷ rest) a b short calls)
 
 concat_rest : (rest : List ℕ) → concat (rest_lines rest) ≡ rest
 concat_rest [] = refl

@@ -30,3 +30,7 @@ leaves_more whole calls few each more_few more_each a b fewer within leaves = re
   few_calls = λ w. omega (arith, fewer, leaves.few_calls w);
   each_call = omega (arith, within, leaves.each_call);
 }
+
+-- where no call takes no byte, there are no more calls than bytes
+pub leaves_each : {K : Type 0} (whole : K → Type 0) (calls : K → ℕ) (few each : ℕ) (a b : K) → LeavesSink whole calls few each a b → LeavesSink whole calls each each a b
+leaves_each whole calls few each a b leaves = record { whole_on = leaves.whole_on; later = leaves.later; few_calls = λ w. leaves.each_call; each_call = leaves.each_call }
