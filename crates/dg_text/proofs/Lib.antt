@@ -15,3 +15,4 @@ mod Spellings
 mod ReplyLines
 mod Pieces
 mod CallSums
+mod ReplyCalls
