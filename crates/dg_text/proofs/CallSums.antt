@@ -1,9 +1,8 @@
 -- How many calls write lines, one after the other.
-use Rattle.std.proofs.Common.{◌≡◌, ◌<◌, ◌≤◌, ◌+◌, ◌*◌, ℕ, List, ◌++◌, length, length-append, take, drop, get_or, sym, ◌∙◌, ap, arith}
-use Rattle.std.specs.Prelude.{All, codes}
+use Rattle.std.proofs.Common.{◌≡◌, ◌<◌, ◌≤◌, ◌+◌, ℕ, List, ◌++◌, length, length-append, take, drop, get_or, sym, ◌∙◌, ap, arith}
+use Rattle.std.specs.Prelude.{codes}
 use Rattle.std.specs.Fmt.{decimal}
 use Rattle.std.specs.List.{flat_map, sum_by}
-use Rattle.std.proofs.lemmas.List.Elements.{All-from_get_or}
 use Rattle.std.proofs.lemmas.List.Sums.{sum_by-le, sum_by-take-le, sum_by_more}
 use Rattle.dg_io.specs.SinkCalls.{LeavesSink}
 use Rattle.dg_text.specs.SinkCallSteps.{leaves_both, leaves_more}

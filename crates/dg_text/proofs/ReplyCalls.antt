@@ -1,5 +1,5 @@
 -- A reply with short lines is written by one call a line.
-use Rattle.std.proofs.Common.{◌≡◌, ◌<◌, ◌≤◌, ◌+◌, ◌*◌, ℕ, List, length, get_or, arith}
+use Rattle.std.proofs.Common.{◌<◌, ◌≤◌, ℕ, List, length, arith}
 use Rattle.std.specs.Prelude.{All}
 use Rattle.std.specs.List.{sum_by}
 use Rattle.std.proofs.lemmas.List.Elements.{All-weaker}
@@ -7,7 +7,7 @@ use Rattle.std.proofs.lemmas.List.Sums.{sum_by-le}
 use Rattle.dg_model.specs.Paths.{PathOf}
 use Rattle.dg_model.specs.declared.replies.Reply.{Reply}
 use Rattle.dg_model.specs.declared.replies.Reply.TheVariants.{Done, Range, Degraded, Unavailable, Already, Lost, NotOut, Failed, NotFilling, Copied, Settled, Malformed, NoSpace, Tended, Diffused, NotSettled, Verdict, Blocks, Data, Given, Cut, Listed as ListedReply, ListedCut, Nodes, NodesCut, Refused, HomeAt, NoHome, Saved, NotSaved, Whole, TooFew, Regrouped, LostFiles, LostFilesCut, Audited, NotParity, Mended}
-use Rattle.dg_text.specs.LineCalls.{HasShortLines, bytes_calls, calls_of, entry_calls, lines_of, path_calls, pieces}
+use Rattle.dg_text.specs.LineCalls.{HasShortLines, calls_of, lines_of, pieces}
 use Rattle.dg_text.proofs.Pieces.{pieces_one}
 use Rattle.ufs_model.specs.Listings.{Listed}
 

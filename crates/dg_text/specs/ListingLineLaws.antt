@@ -1,5 +1,5 @@
 -- How what a receiver takes goes on from some entries to the next.
-use Rattle.std.proofs.Common.{◌≡◌, ◌≤◌, ◌+◌, ℕ, List, [], ◌++◌, length, length-append, refl, sym, ◌∙◌, ap, subst, arith}
+use Rattle.std.proofs.Common.{◌≡◌, ◌+◌, ℕ, List, [], ◌++◌, length, length-append, refl, sym, ◌∙◌, ap, subst, arith}
 use Rattle.std.proofs.lemmas.Grind.{flat_map-append}
 use Rattle.dg_io.specs.SinkCalls.{LeavesSink}
 use Rattle.dg_io.specs.Told.{Told, Took, TookPart}

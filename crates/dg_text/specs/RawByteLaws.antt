@@ -1,5 +1,5 @@
 -- How what a receiver takes goes on from one piece to the next.
-use Rattle.std.proofs.Common.{◌≤◌, ◌+◌, ℕ, List, [], ◌++◌, length, length-append, refl, sym, ◌∙◌, subst, arith}
+use Rattle.std.proofs.Common.{ℕ, List, [], ◌++◌, length, length-append, refl, sym, ◌∙◌, subst, arith}
 use Rattle.dg_io.specs.SinkCalls.{LeavesSink}
 use Rattle.dg_io.specs.declared.outside.Sink.{Ghosts}
 use Rattle.dg_text.specs.SinkCallSteps.{leaves_both, leaves_more, leaves_none}

@@ -1,4 +1,4 @@
-use Rattle.std.proofs.Common.{◌≡◌, ◌++◌, ◌∙◌, ap, refl, arith, length, take, ℕ, List, length-append, ◌≤◌}
+use Rattle.std.proofs.Common.{◌≡◌, ◌++◌, ◌∙◌, ap, refl, arith, length, take, ℕ, List, length-append}
 use Rattle.std.proofs.lemmas.List.{length-take}
 use Rattle.dg_text.specs.HexLines.{waiting}
 use Rattle.dg_text.specs.ToldSteps.{on_err}

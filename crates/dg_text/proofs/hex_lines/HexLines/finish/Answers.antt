@@ -1,4 +1,4 @@
-use Rattle.std.proofs.Common.{◌≤◌, ◌+◌, ◌++◌, length, length-append, arith}
+use Rattle.std.proofs.Common.{◌+◌, ◌++◌, length, length-append, arith}
 use Rattle.std.proofs.lemmas.Result.{on_ok_weaker, on_err_weaker}
 use Rattle.dg_text.specs.Replies.{file_text}
 use Rattle.dg_text.specs.HexLines.{waiting, rest_lines, last_line}
