@@ -2,6 +2,8 @@ mod AnyLaws
 mod ArrayLaws
 mod AuditSteps
 mod BlankLaws
+mod CommitLaws
+mod CommitSteps
 mod CopySteps
 mod CutLaws
 mod DiskLaws
