@@ -6,7 +6,8 @@ use Rattle.std.proofs.lemmas.Nat.Bits.{bit_at-zero}
 use Rattle.dg_io.specs.Commits.{LeavesCommit, fell_in, is_marked}
 use Rattle.dg_io.specs.declared.checkpoints.CommitAnswer.{CommitAnswer}
 use Rattle.dg_io.specs.declared.outside.Rack.{Ghosts}
-use Rattle.dg_model.specs.Members.{IsStruck, is_filling, is_good, partner_of}
+use Rattle.dg_model.proofs.MemberLaws.{NoneRecovers}
+use Rattle.dg_model.specs.Members.{IsStruck, MembersFall, is_filling, is_good, partner_of}
 use Rattle.dg_model.specs.Tables.{Table}
 use Rattle.dg_model.specs.declared.members.MemberState.{MemberState}
 use Rattle.dg_model.specs.declared.members.MemberState.TheVariants.{Out}
@@ -15,6 +16,7 @@ use Rattle.dg_regroup.specs.Marks.{IsMarkedToo}
 use Rattle.dg_store.specs.Commits.{CommitLeaves}
 use Rattle.dg_store.specs.Stores.{IsSound, IsWhole, KeepsBlocks, members_of, rack_of, shape_of, table_of}
 use Rattle.dg_store.specs.declared.store.Store.{Store}
+use Rattle.dg_volume.proofs.ToldLaws.{StaysTold}
 use Rattle.dg_volume.proofs.VolumeSteps.{struck_out}
 use Rattle.dg_volume.specs.Commits.{AreFailed, AreGoodBits, CommitsArray, FailsMarked}
 
@@ -154,3 +156,61 @@ module _ {R : Type 0} (rack : Ghosts R) where
     members = subst (λ (m : ℕ → MemberState). AreFailed (fell_in keep answer) m (members_of new)) h.members fails.members;
     blocks = λ V stands. fails.blocks V (h.blocks V stands);
   }
+
+-- ---- what the members do then
+
+module _ (fell : ℕ) (old new : ℕ → MemberState) (h : AreFailed fell old new) where
+  -- a member is as it was, or out
+  pub still_or_out : (q : ℕ) → (new q ≡ old q) ⊎ (new q ≡ Out)
+  still_or_out q = elim (cases_Bool (is_marked fell q)) [
+    | inl fallen ↦ inr (h.out q fallen)
+    | inr stood ↦ elim (h.others q stood) [ inl still ↦ inl still | inr left ↦ inr left.1 ]
+  ]
+
+  pub failed_back : NoneRecovers old new
+  failed_back q good = elim (still_or_out q) [ inl still ↦ sym (ap is_good still) ∙ good | inr out ↦ absurd (false≢true (sym (ap is_good out) ∙ good)) ]
+
+  pub failed_outs : (q : ℕ) → old q ≡ Out → new q ≡ Out
+  failed_outs q was = elim (still_or_out q) [ inl still ↦ still ∙ was | inr out ↦ out ]
+
+  pub failed_fills : (q : ℕ) → is_filling (new q) ≡ true → is_filling (old q) ≡ true
+  failed_fills q fills = elim (still_or_out q) [ inl still ↦ sym (ap is_filling still) ∙ fills | inr out ↦ absurd (false≢true (sym (ap is_filling out) ∙ fills)) ]
+
+module _ {R : Type 0} (rack : Ghosts R) (room : R → Option ℕ) (extra : List ℕ) (answer : CommitAnswer) (a b : Store R) (h : CommitsArray rack room extra answer a b) where
+  pub told_commit : StaysTold rack a b
+  told_commit =
+      let fell = fell_in h.keep answer in
+      record {
+        sound = h.sound;
+        table = h.table;
+        same = h.leaves.same;
+        told_before = h.leaves.told_before;
+        back = failed_back fell (members_of a) (members_of b) h.members;
+        outs = failed_outs fell (members_of a) (members_of b) h.members;
+        fills = failed_fills fell (members_of a) (members_of b) h.members;
+        blocks = h.blocks;
+      }
+
+  -- members fall by their own faults, and one that was refilled with its partner
+  pub commit_falls : MembersFall (rack.counts (rack_of a)).faults (rack.counts (rack_of b)).faults (members_of a) (members_of b)
+  commit_falls q = elim (cases_Bool (is_marked (fell_in h.keep answer) q)) [
+    | inl fallen ↦ inr (record { out = h.members.out q fallen; caused = inl (h.leaves.cause q fallen) })
+    | inr stood ↦ elim (h.members.others q stood) [
+      | inl still ↦ inl still
+      | inr left ↦ inr (record { out = left.1; caused = inr (left.0, h.members.out (partner_of q) left.2) })
+    ]
+  ]
+
+  -- a member that fell was good
+  pub fallen_good : (q : ℕ) → is_marked (fell_in h.keep answer) q ≡ true → is_good (members_of a q) ≡ true
+  fallen_good q fallen = elim (cases_Bool (is_marked h.keep q)) [
+    | inl kept ↦ sym (h.good q) ∙ kept
+    | inr other ↦ absurd (false≢true (sym (h.leaves.only q other) ∙ fallen))
+  ]
+
+  -- of one that wasn't good no call failed
+  pub idle_commit : (q : ℕ) → is_good (members_of a q) ≡ false → (rack.counts (rack_of b)).faults q ≡ (rack.counts (rack_of a)).faults q
+  idle_commit q bad = elim (cases_Bool (is_marked (fell_in h.keep answer) q)) [
+    | inl fallen ↦ absurd (false≢true (sym bad ∙ fallen_good q fallen))
+    | inr stood ↦ h.leaves.uncalled q stood
+  ]

@@ -37,6 +37,7 @@ mod SaveLaws
 mod SealSteps
 mod SettleSteps
 mod SettledSteps
+mod ToldLaws
 mod UseLaws
 mod VolumeLaws
 mod VolumeSteps
