@@ -8,6 +8,7 @@ mod CopySteps
 mod CutLaws
 mod DiskLaws
 mod DiskSteps
+mod ExtraLaws
 mod FaultLaws
 mod FewLaws
 mod FileAnswers

@@ -77,7 +77,7 @@ module _ {R : Type 0} (rack : Ghosts R) (a b : Store R) (h : StaysTold rack a b)
   below_still q below = subst (λ (shape : Shape). q / 2 < shape.b) shape_told below
 
   -- the label stands on fewer of the members that have it, but on each good one
-  fewer : (line : Shape) (kept : Option KeptLabel) (last : LastLabel) (keepers bodies : ℕ → Bool) → ((q : ℕ) → keepers q ≡ true → last.keepers q ≡ true)
+  pub fewer : (line : Shape) (kept : Option KeptLabel) (last : LastLabel) (keepers bodies : ℕ → Bool) → ((q : ℕ) → keepers q ≡ true → last.keepers q ≡ true)
       → ((q : ℕ) → bodies q ≡ true → last.bodies q ≡ true) → ((q : ℕ) → last.keepers q ≡ true → is_good (stores.members_of b q) ≡ true → keepers q ≡ true)
       → StandsLabeled rack line a kept (Some last) → StandsLabeled rack line b kept (Some (record last { keepers = keepers; bodies = bodies }))
   fewer line kept last keepers bodies less_keep less_bodies still stands = record {

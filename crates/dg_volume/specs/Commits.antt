@@ -86,7 +86,7 @@ pub record Commits {S R : Type 0} (phase : phases.Ghosts S) (rack : Ghosts R) (r
       → StandsIn phase rack (WasHeld rack origin) new (committed rack new state (label_after false (members_of old) (members_of new) state.label))
   pub left : (origin : Origin R) (state : State) → StandsIn phase rack (WasHeld rack origin) old state
       → StandsIn phase rack (WasHeld rack origin) new (committed rack new state (option_map (left_on (members_of new)) state.label))
-  pub passes : (origin : Origin R) (before state : State) → StandsIn phase rack (WasHeld rack origin) old state → PassesSave before state
-      → (label : Option LastLabel) → PassesSave before (committed rack new state label)
+  pub passes : (origin : Origin R) (before state : State) → StandsIn phase rack (WasHeld rack origin) old state → state.table ≡ before.table
+      → PassesSave before state → (label : Option LastLabel) → PassesSave before (committed rack new state label)
   pub saves : (origin : Origin R) (before state : State) (sequence : ℕ) → StandsIn phase rack (WasHeld rack origin) old state → Saves before sequence state
       → HasGood new → Saves before sequence (committed rack new state (option_map (left_on (members_of new)) state.label))
