@@ -1,16 +1,16 @@
 -- What a commit leaves of a volume and its states.
-use Rattle.std.proofs.Common.{◌≡◌, ◌∙◌, ◌<◌, ◌≤◌, ◌/◌, ◌&&◌, ℕ, Bool, true, false, List, inl, inr, refl, sym, ap, subst, arith}
+use Rattle.std.proofs.Common.{◌≡◌, ◌∙◌, ◌&&◌, ℕ, Bool, true, false, List, inl, inr, refl, sym, ap, subst, arith}
 use Rattle.std.specs.Prelude.{None, Option, Some}
 use Rattle.std.specs.Option.{option_map}
-use Rattle.std.proofs.lemmas.Bool.{and_from, and_parts, cases_Bool, cases_lt, false≢true}
+use Rattle.std.proofs.lemmas.Bool.{and_from, and_parts, cases_Bool, false≢true}
 use Rattle.dg_io.specs.Commits.{fell_in, is_marked}
 use Rattle.dg_io.specs.declared.checkpoints.CommitAnswer.{CommitAnswer}
 use Rattle.dg_io.specs.declared.outside.Rack.{Ghosts}
 use Rattle.dg_label.specs.Labels.{StandsLabeled}
-use Rattle.dg_label.specs.declared.labels.KeptLabel.{KeptLabel}
+use Rattle.dg_label.specs.Seals.{HasGood}
 use Rattle.dg_model.proofs.MemberLaws.{falls_both, good_was}
 use Rattle.dg_model.specs.Changes.{PassesSave, Saves}
-use Rattle.dg_model.specs.Members.{MembersFall, is_good}
+use Rattle.dg_model.specs.Members.{is_good}
 use Rattle.dg_model.specs.Saves.{body_of}
 use Rattle.dg_model.specs.Seals.{LastLabel, label_after}
 use Rattle.dg_model.specs.States.{State, saved_of}
@@ -21,12 +21,12 @@ use Rattle.dg_regroup.specs.Extras.{extra_bytes}
 use Rattle.dg_store.specs.ReadLaws.{rises_both}
 use Rattle.dg_store.specs.Stores as stores
 use Rattle.dg_store.specs.declared.store.Store.{Store}
-use Rattle.dg_volume.proofs.CommitLaws.{commit_falls, fallen_good, idle_commit, told_commit}
+use Rattle.dg_volume.proofs.CommitLaws.{commit_falls, idle_commit, told_commit}
 use Rattle.dg_volume.proofs.ToldLaws.{StaysTold, fewer, holds_told, known_before, line_told, stands_after, stands_still, under_told, well_told}
-use Rattle.dg_volume.specs.Commits.{Commits, CommitsArray, HasGood, committed, extra_of, left_on}
+use Rattle.dg_volume.specs.Commits.{Commits, CommitsArray, committed, extra_of, left_on}
 use Rattle.dg_volume.specs.Origins.{Origin, WasHeld}
 use Rattle.dg_volume.specs.Regroups.{GoesOn}
-use Rattle.dg_volume.specs.Volumes.{IsWell, Known, StandsFor, StandsIn, StandsUnder, line_of, members_of, rack_of, shape_of, state_of, table_of}
+use Rattle.dg_volume.specs.Volumes.{IsWell, Known, StandsFor, StandsIn, line_of, members_of, rack_of, state_of, table_of}
 use Rattle.dg_volume.specs.declared.phases.InPhase as phases
 use Rattle.dg_volume.specs.declared.volumes.Volume.{Volume}
 
@@ -123,7 +123,7 @@ module _ {S R : Type 0} (phase : phases.Ghosts S) (rack : Ghosts R) (room : R �
       subst (λ (s : State). PassesSave before (committed rack after s label)) (sym st.is)
       (passes_from before state state.blocks label well (ap (λ (s : State). s.table) (sym st.is) ∙ same) (subst (λ (s : State). PassesSave before s) st.is p))
 
-  saves_from : (before rest : State) (V : List (List ℕ)) (sequence : ℕ) → IsWell phase rack a → Saves before sequence (state_of phase rack a rest V) → HasGood after
+  saves_from : (before rest : State) (V : List (List ℕ)) (sequence : ℕ) → IsWell phase rack a → Saves before sequence (state_of phase rack a rest V) → HasGood store
       → Saves before sequence (left_state rest V (option_map (left_on (stores.members_of store)) rest.label))
   saves_from before rest V sequence well s some = record {
     passes = passes_from before rest V (option_map (left_on (stores.members_of store)) rest.label) well (ap (λ (x : State). x.table) s.rest) s.passes;
@@ -155,7 +155,7 @@ module _ {S R : Type 0} (phase : phases.Ghosts S) (rack : Ghosts R) (room : R �
       good_now q = narrowed (is_good (members_of a q)) (is_good (stores.members_of store q)) (told.back q)
 
   pub saves_at : (origin : Origin R) (before state : State) (sequence : ℕ) → IsWell phase rack a → StandsIn phase rack (WasHeld rack origin) a state → Saves before sequence state
-      → HasGood after → Saves before sequence (committed rack after state (option_map (left_on (stores.members_of store)) state.label))
+      → HasGood store → Saves before sequence (committed rack after state (option_map (left_on (stores.members_of store)) state.label))
   saves_at origin before state sequence well st s some =
       subst (λ (x : State). Saves before sequence (committed rack after x (option_map (left_on (stores.members_of store)) x.label))) (sym st.is)
       (saves_from before state state.blocks sequence well (subst (λ (x : State). Saves before sequence x) st.is s) some)

@@ -1,7 +1,7 @@
 -- What stands beside the saved state of a volume: its form, and the room that it takes.
-use Rattle.std.proofs.Common.{◌≡◌, ◌∙◌, ◌<◌, ◌≤◌, ◌+◌, ◌*◌, ◌^◌, ◌++◌, ℕ, Bool, List, [], ◌∷◌, filter, length, ap, refl, arith}
+use Rattle.std.proofs.Common.{◌≡◌, ◌<◌, ◌≤◌, ◌+◌, ◌*◌, ◌^◌, ℕ, Bool, List, [], ◌∷◌, length, ap, refl, arith}
 use Rattle.std.specs.Prelude.{IfSome, None, Option, Some}
-use Rattle.std.specs.List.{All, flat_map, range_with_len}
+use Rattle.std.specs.List.{flat_map, range_with_len}
 use Rattle.byteorder.specs.Endian.{little_bytes}
 use Rattle.std.proofs.lemmas.List.{length-append}
 use Rattle.std.proofs.lemmas.List.Concat.{flat_map-cons}
@@ -12,7 +12,6 @@ use Rattle.std.proofs.lemmas.List.Sums.{count_by-le-length, length-filter}
 use Rattle.dg_model.specs.Lives.{AreLive}
 use Rattle.dg_model.specs.Marks.{is_marked, marked}
 use Rattle.dg_regroup.specs.Extras.{IsExtra, extra_bytes, front_bytes, numbers_bytes}
-use Rattle.dg_regroup.specs.declared.extras.Extra.{Extra}
 use Rattle.dg_volume.proofs.OrderLaws.{range_ascends}
 
 -- no more blocks are marked than there are

@@ -1,11 +1,10 @@
 -- What calls leave of a volume that keep all its bytes: members only fall, and what is told was told before.
-use Rattle.std.proofs.Common.{◌≡◌, ◌≢◌, ◌∙◌, ◌≤◌, ◌<◌, ◌+◌, ◌/◌, ◌&&◌, ◌||◌, ℕ, Bool, true, false, List, length, inl, inr, refl, sym, ap, subst}
+use Rattle.std.proofs.Common.{◌≡◌, ◌≢◌, ◌∙◌, ◌≤◌, ◌<◌, ◌/◌, ◌&&◌, ◌||◌, ℕ, Bool, true, false, List, length, inl, inr, refl, sym, ap, subst}
 use Rattle.std.specs.Prelude.{IfSome, None, Option, Some, if◌then◌else◌, not, take}
-use Rattle.std.specs.Option.{option_map}
 use Rattle.std.proofs.lemmas.Bool.{and_from, and_parts, cases_Bool, false≢true}
 use Rattle.dg_io.specs.Told.{IsSame, Told}
 use Rattle.dg_io.specs.declared.outside.Rack.{Ghosts}
-use Rattle.dg_label.specs.Labels.{AreSized, HasLength, IsKeptOf, IsLabeled, IsOfBoundariesInUse, StandsLabeled}
+use Rattle.dg_label.specs.Labels.{HasLength, IsKeptOf, IsLabeled, IsOfBoundariesInUse, StandsLabeled}
 use Rattle.dg_label.specs.LineLaws.{line_on, seal_on}
 use Rattle.dg_label.specs.declared.labels.KeptLabel.{KeptLabel}
 use Rattle.dg_model.proofs.MemberLaws.{NoneRecovers}
@@ -13,8 +12,8 @@ use Rattle.dg_model.specs.Blocks.{zeros}
 use Rattle.dg_model.specs.Members.{is_filling, is_good}
 use Rattle.dg_model.specs.Saves.{AreHomes, BeginsWith, HasBody, member_length}
 use Rattle.dg_model.specs.Saves as saves
-use Rattle.dg_model.specs.Seals.{HoldsLabel, LastLabel, label_after, label_on}
-use Rattle.dg_model.specs.States.{State, has_lost}
+use Rattle.dg_model.specs.Seals.{LastLabel, label_after, label_on}
+use Rattle.dg_model.specs.States.{has_lost}
 use Rattle.dg_model.specs.Tables.{Table}
 use Rattle.dg_model.specs.declared.members.MemberState.TheVariants.{Out}
 use Rattle.dg_model.specs.declared.shapes.Shape.{Shape}

@@ -1,9 +1,11 @@
 -- What a commit of a volume keeps, and what it leaves.
-use Rattle.std.specs.Prelude.{◌≡◌, ◌⊎◌, ◌&&◌, ◌*◌, ◌+◌, ℕ, Bool, true, false, List, Option}
+use Rattle.std.specs.Prelude.{◌≡◌, ◌⊎◌, ◌&&◌, ℕ, true, false, List, Option}
 use Rattle.std.specs.Option.{option_map}
 use Rattle.dg_io.specs.Commits.{LeavesCommit, fell_in, is_marked}
 use Rattle.dg_io.specs.declared.checkpoints.CommitAnswer.{CommitAnswer}
 use Rattle.dg_io.specs.declared.outside.Rack.{Ghosts}
+use Rattle.dg_label.specs.Seals.{HasGood, HasNoGood}
+use Rattle.dg_label.specs.declared.labels.KeptLabel.{KeptLabel}
 use Rattle.dg_model.specs.Changes.{PassesSave, Saves}
 use Rattle.dg_model.specs.Marks.{marked}
 use Rattle.dg_model.specs.Members.{is_filling, is_good, partner_of}
@@ -74,10 +76,6 @@ committed rack new state label = record state { members = members_of new; counts
 abbrev pub left_on : (ℕ → MemberState) → LastLabel → LastLabel
 left_on members last = record last { keepers = λ q. last.keepers q && is_good (members q); bodies = λ q. last.bodies q && is_good (members q) }
 
--- some member is good
-abbrev pub HasGood : {S R : Type 0} → Volume S R → Type 0
-HasGood volume = (q : ℕ) × (is_good (members_of volume q) ≡ true)
-
 -- What a commit leaves of a volume, with the rack's answer. It is in the state in which it was, but for members that fell. Where that state was left by
 -- a save, and some member is good, the save and the commit are one save.
 pub record Commits {S R : Type 0} (phase : phases.Ghosts S) (rack : Ghosts R) (room : R → Option ℕ) (old : Volume S R) (answer : CommitAnswer) (new : Volume S R) : Type 0 where
@@ -89,4 +87,4 @@ pub record Commits {S R : Type 0} (phase : phases.Ghosts S) (rack : Ghosts R) (r
   pub passes : (origin : Origin R) (before state : State) → StandsIn phase rack (WasHeld rack origin) old state → state.table ≡ before.table
       → PassesSave before state → (label : Option LastLabel) → PassesSave before (committed rack new state label)
   pub saves : (origin : Origin R) (before state : State) (sequence : ℕ) → StandsIn phase rack (WasHeld rack origin) old state → Saves before sequence state
-      → HasGood new → Saves before sequence (committed rack new state (option_map (left_on (members_of new)) state.label))
+      → HasGood new.store → Saves before sequence (committed rack new state (option_map (left_on (members_of new)) state.label))

@@ -1,4 +1,4 @@
-use Rattle.std.proofs.Common.{◌≡◌, ◌*◌, ap, arith}
+use Rattle.std.proofs.Common.{ap, arith}
 use Rattle.dg_model.specs.declared.shapes.Shape.{Shape}
 use Rattle.dg_store.specs.Stores.{shape_of}
 use Rattle.dg_volume.proofs.CommitLaws.{failed_begins, failed_ends, failed_step}

@@ -1,4 +1,4 @@
-use Rattle.std.proofs.Common.{◌≡◌, ◌*◌, ap, arith}
+use Rattle.std.proofs.Common.{ap, arith}
 use Rattle.dg_model.specs.declared.shapes.Shape.{Shape}
 use Rattle.dg_store.specs.Stores.{members_of, shape_of}
 use Rattle.dg_volume.proofs.CommitLaws.{good_begins, good_ends, good_step}

@@ -1,5 +1,4 @@
-use Rattle.std.proofs.Common.{◌≡◌, ◌∙◌, ℕ, Bool, List, false, [], ◌∷◌, ◌++◌, filter, get_or, sym, ap, arith, if◌then◌else◌}
-use Rattle.std.specs.List.{range_with_len}
+use Rattle.std.proofs.Common.{◌∙◌, ℕ, Bool, List, false, [], ◌∷◌, ◌++◌, sym, ap, arith, if◌then◌else◌}
 use Rattle.std.proofs.lemmas.List.{get_or_default}
 use Rattle.dg_model.specs.Marks.{is_marked}
 use Rattle.dg_volume.proofs.LeftLists.{filter_more}

@@ -1,4 +1,4 @@
-use Rattle.std.proofs.Common.{◌≡◌, ◌∙◌, ◌≤◌, ◌+◌, ◌*◌, ℕ, List, length, ap, subst, arith}
+use Rattle.std.proofs.Common.{◌∙◌, ◌+◌, ◌*◌, ℕ, List, length, ap, subst, arith}
 use Rattle.dg_regroup.specs.Extras.{extra_bytes}
 use Rattle.dg_regroup.specs.declared.extras.Extra.{Extra}
 use Rattle.dg_store.specs.Stores.{rack_of}

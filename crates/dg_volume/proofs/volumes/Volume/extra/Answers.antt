@@ -1,4 +1,4 @@
-use Rattle.std.proofs.Common.{rules, ◌≡◌, ◌<◌, ◌^◌, ℕ, List, sym, subst, arith}
+use Rattle.std.proofs.Common.{rules, ◌≡◌, ℕ, List, sym, subst, arith}
 use Rattle.dg_model.specs.Marks.{marked}
 use Rattle.dg_regroup.specs.Extras.{IsExtra}
 use Rattle.dg_volume.proofs.ExtraLaws.{is_extra}
