@@ -2,10 +2,13 @@ mod AnyLaws
 mod ArrayLaws
 mod AuditSteps
 mod BlankLaws
+mod CommitLaws
+mod CommitSteps
 mod CopySteps
 mod CutLaws
 mod DiskLaws
 mod DiskSteps
+mod ExtraLaws
 mod FaultLaws
 mod FewLaws
 mod FileAnswers
@@ -35,6 +38,7 @@ mod SaveLaws
 mod SealSteps
 mod SettleSteps
 mod SettledSteps
+mod ToldLaws
 mod UseLaws
 mod VolumeLaws
 mod VolumeSteps

@@ -8,6 +8,7 @@
 mod answers;
 mod any;
 mod audits;
+mod commits;
 mod copies;
 mod cut_reads;
 mod disks;
