@@ -1,4 +1,5 @@
 pub mod Audits
+pub mod LostFiles
 pub mod Copies
 pub mod CutReads
 pub mod Faults
