@@ -1,6 +1,6 @@
 -- A drill, from the blank array to the last reading.
 use Rattle.std.proofs.Common.{◌≡◌, ◌≢◌, ◌∙◌, ◌/◌, ◌<◌, ◌≤◌, ◌%◌, ℕ, zero, suc, List, [], ◌∷◌, refl, sym, ap, subst, arith}
-use Rattle.std.specs.Prelude.{None, Option, cond, replicate}
+use Rattle.std.specs.Prelude.{Option, cond, replicate}
 use Rattle.std.proofs.lemmas.List.Sums.{sum_by-cons}
 use Rattle.dg_drill.proofs.ChainLaws.{run_both, told_before}
 use Rattle.dg_drill.specs.Calls.{Facts, rack_facts}
@@ -95,8 +95,8 @@ module _ {R : Type 0} (rack : Ghosts R) (before : R) (loose : Volume Loose R) (v
   written : HasWritten rack blank.state (writes_of g.fsize image (trace_of Late g image)) [] more v1
   written = writes blank.state (same.stands nothing blank.state blank.stands) (blank_unwritten blank.state (trace_of Late g image) table_is)
 
-  lost : HasLost rack (settles None written.next written.led.stands).0 s v3
-  lost = loses (settles None written.next written.led.stands).0 (settles None written.next written.led.stands).1
+  lost : HasLost rack (settles nothing written.next written.led.stands).0 s v3
+  lost = loses (settles nothing written.next written.led.stands).0 (settles nothing written.next written.led.stands).1
 
   read : HasReadAll rack seed lost.next files tally v4
   read = reads lost.next lost.led.stands
@@ -140,7 +140,7 @@ module _ {R : Type 0} (rack : Ghosts R) (before : R) (loose : Volume Loose R) (v
   pub has_drilled : HasDrilled (rack.tells (rack_of v4)) (rack_facts rack before (rack_of v4) taken given) seed files text
   has_drilled =
       let K : Type 0 = TellsBoundaries (rack.tells (rack_of v4)) read.next in
-      let step = settles None written.next written.led.stands in
+      let step = settles nothing written.next written.led.stands in
       let fails = subst (λ (n : ℕ). Run K step.0 (loss_at n) lost.losses lost.next) boundary
       (run_less known3 step.0 (loss_at s) lost.losses lost.next lost.led.run) in
       record {
@@ -162,7 +162,7 @@ module _ {R : Type 0} (rack : Ghosts R) (before : R) (loose : Volume Loose R) (v
               (run_less known4 lost.next (read_events files) read.replies read.next read.led.run),
         );
         counts = ap (λ (s : State). s.counts) read.led.stands.is;
-        holds = λ told. holds_all rack v4 any_phase read.next read.led.stands (known4 told);
+        holds = λ told. holds_all rack v4 any_phase read.next l4.well read.led.stands (known4 told);
         others = others;
         text_is = text_is read.replies read.tallied ∙ ap (λ (n : ℕ). report_text seed files n settled read.replies) count_is;
       }

@@ -16,7 +16,7 @@ use Rattle.dg_model.specs.declared.sites.Site.{Site}
 use Rattle.dg_model.specs.declared.wants.Want.{Want}
 use Rattle.dg_model.specs.declared.wants.Want.TheVariants.{File, Kept, Stray}
 
-file_is : (i : ℕ) (want : Option Want) → is_file i want ≡ true → want ≡ Some (File i)
+pub file_is : (i : ℕ) (want : Option Want) → is_file i want ≡ true → want ≡ Some (File i)
 file_is i None is = absurd (false≢true is)
 file_is i (Some Kept) is = absurd (false≢true is)
 file_is i (Some Stray) is = absurd (false≢true is)

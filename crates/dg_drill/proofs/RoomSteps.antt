@@ -5,6 +5,7 @@ use Rattle.std.specs.List.{filter, range_with_len}
 use Rattle.std.proofs.lemmas.Bool.{and_parts, cases_eq, eq-eqb, false≢true, ne_eqb}
 use Rattle.std.proofs.lemmas.Bool.Decides.{nat_tests}
 use Rattle.std.proofs.lemmas.List.Elements.{Contains-append_cases}
+use Rattle.dg_drill.proofs.HomeSteps.{file_is}
 use Rattle.dg_drill.specs.Volumes.{drill_shape}
 use Rattle.dg_model.specs.Changes.{IsCramped}
 use Rattle.dg_model.specs.Homes.{Ascend}
@@ -94,12 +95,6 @@ kept_is None is = absurd (false≢true is)
 kept_is (Some Kept) is = refl
 kept_is (Some (File i)) is = absurd (false≢true is)
 kept_is (Some Stray) is = absurd (false≢true is)
-
-file_is : (i : ℕ) (want : Option Want) → is_file i want ≡ true → want ≡ Some (File i)
-file_is i None is = absurd (false≢true is)
-file_is i (Some Kept) is = absurd (false≢true is)
-file_is i (Some (File j)) is = let same : j ≡ i = grind (arith, nat_tests) in rw same refl
-file_is i (Some Stray) is = absurd (false≢true is)
 
 -- a law of plans
 abbrev pub PlansHaveRoom : Type 0

@@ -26,7 +26,8 @@ fn first_form<R: Rack>(store: &Store<R>, line: &Shape) -> Option<KeptLabel>
     requires labeled { IsLabeled R.Rack line.now store.now None }
     ensures { IsLabeled R.Rack line.now store.now result }
 {
-    let _shape = (store.shape(), line.b);
+    let _shape = store.shape();
+    let _boundaries = line.b;
     Some(KeptLabel {
         format: 1,
         sequence: 1,

@@ -26,7 +26,7 @@ pub use crate::promises::{
     cat_keeps_its_promise, cats_without_faults_lose_none, few_losses_leave_files_whole,
     homes_are_of_owners,
 };
-pub use crate::regroups::uncut_files_stay;
+pub use crate::regroups::{homes_left_ascend, uncut_files_stay};
 pub use crate::resumes::{
     opened_arrays_are_steady, settled_arrays_keep_their_promise, steady_runs_keep_their_promise,
 };

@@ -92,7 +92,7 @@ module _ {R : Type 0} (rack : Ghosts R) (before : R) (a b : Array R) (opened : H
         let in_end : volumes.StandsIn any_phase rack (WasHeld rack was) b.volume final = one.1 in
         record {
           resumed = resumed_to events replies final one.2;
-          holds = λ told. holds_all rack b.volume any_phase final in_end (told_end told);
+          holds = λ told. holds_all rack b.volume any_phase final goes.well in_end (told_end told);
           counts = ap (λ (s : State). s.counts) in_end.is;
         }
 

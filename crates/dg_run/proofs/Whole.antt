@@ -84,7 +84,7 @@ module _ {R : Type 0} (ghosts : Ghosts R) (shape : Shape) (first : ℕ) (rack : 
         budget = omega (arith, length-append (line_of (MakeArray shape)) (input_of events));
         final = final;
         trace = (blank.state, blank.blank, run_less known blank.state events replies final W.2);
-        holds = λ told. holds_all ghosts b.volume any_phase final stands (known told);
+        holds = λ told. holds_all ghosts b.volume any_phase final goes.well stands (known told);
         others = others_kept events replies final stands placed W.2;
         counts = ap (λ (s : State). s.counts) stands.is;
       }

@@ -8,7 +8,6 @@ pub mod Events
 pub mod Inputs
 pub mod Lines
 pub mod Opened
-pub mod Paths
 pub mod Plain
 pub mod Refusals
 pub mod Replays

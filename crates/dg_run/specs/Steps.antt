@@ -50,27 +50,27 @@ pub record StandsIn {R : Type 0} (rack : Ghosts R) (P : Type 0) (array : Array R
 -- Whichever state the array was in, it made a step from it, to a state that it is in now. That it stood for the state's blocks may rest on what
 -- its members held when it was opened.
 abbrev pub StepsTo : {R : Type 0} → Ghosts R → Array R → Event → Reply → Array R → Type 0
-StepsTo rack old event reply new = (origin : Origin R) (state : State) → StandsIn rack (WasHeld rack origin) old state →
+StepsTo {R = R} rack old event reply new = (origin : Origin R) (state : State) → StandsIn rack (WasHeld rack origin) old state →
     (next : State) × StandsIn rack (WasHeld rack origin) new next × Step (Known (WasHeld rack origin) rack new) state event reply next
 
 -- the same, but nothing is said of the inodes that it read last
 abbrev pub VolumeStepsTo : {R : Type 0} → Ghosts R → Array R → Event → Reply → Array R → Type 0
-VolumeStepsTo rack old event reply new = (origin : Origin R) (state : State) → StandsIn rack (WasHeld rack origin) old state →
+VolumeStepsTo {R = R} rack old event reply new = (origin : Origin R) (state : State) → StandsIn rack (WasHeld rack origin) old state →
     (next : State) × volumes.StandsIn any_phase rack (WasHeld rack origin) new.volume next × Step (Known (WasHeld rack origin) rack new) state event reply next
 
 -- a run of steps
 abbrev pub RunsTo : {R : Type 0} → Ghosts R → Array R → List Event → List Reply → Array R → Type 0
-RunsTo rack old events replies new = (origin : Origin R) (state : State) → StandsIn rack (WasHeld rack origin) old state →
+RunsTo {R = R} rack old events replies new = (origin : Origin R) (state : State) → StandsIn rack (WasHeld rack origin) old state →
     (next : State) × StandsIn rack (WasHeld rack origin) new next × Run (Known (WasHeld rack origin) rack new) state events replies next
 
 -- the same, but nothing is said of the inodes that it read last
 abbrev pub VolumeRunsTo : {R : Type 0} → Ghosts R → Array R → List Event → List Reply → Array R → Type 0
-VolumeRunsTo rack old events replies new = (origin : Origin R) (state : State) → StandsIn rack (WasHeld rack origin) old state →
+VolumeRunsTo {R = R} rack old events replies new = (origin : Origin R) (state : State) → StandsIn rack (WasHeld rack origin) old state →
     (next : State) × volumes.StandsIn any_phase rack (WasHeld rack origin) new.volume next × Run (Known (WasHeld rack origin) rack new) state events replies next
 
 -- the same, but nothing is said of what the array stands for now
 abbrev pub RunsBefore : {R : Type 0} → Ghosts R → Array R → List Event → List Reply → Array R → Type 0
-RunsBefore rack old events replies now = (origin : Origin R) (state : State) → StandsIn rack (WasHeld rack origin) old state →
+RunsBefore {R = R} rack old events replies now = (origin : Origin R) (state : State) → StandsIn rack (WasHeld rack origin) old state →
     (next : State) × (next.table.shape ≡ shape_of now) × Run (Known (WasHeld rack origin) rack now) state events replies next
 
 -- ---- answers

@@ -4,29 +4,13 @@ ghost use Rattle.dg_model.specs.Causes.{Rose};
 ghost use Rattle.dg_model.specs.declared.replies.Reply.{Reply};
 ghost use Rattle.dg_io.specs.Told.{Told, Took, TookPart};
 ghost use Rattle.dg_text.specs.Replies.{reply_line};
-ghost use Rattle.dg_run.specs.Paths.{reply_at};
+ghost use Rattle.dg_saved.specs.Serves.{reply_at};
 
 use crate::events::Fault;
 use crate::serve::send;
 use dg_io::Sink;
-use dg_model::Reply;
+use dg_saved::reply_at;
 use dg_volume::CatAnswer;
-use ufs_model::PathRefusal;
-
-/// The reply to a path that gave nothing.
-fn reply_at(answer: CatAnswer) -> Reply
-    requires { IsSome (reply_at answer) }
-    ensures is { reply_at answer ≡ Some result }
-{
-    match answer {
-        CatAnswer::NotFound => Reply::Refused(PathRefusal::NotFound),
-        CatAnswer::NotDirectory => Reply::Refused(PathRefusal::NotDirectory),
-        CatAnswer::NotRegular => Reply::Refused(PathRefusal::NotRegular),
-        CatAnswer::Bad(bad) => Reply::Refused(PathRefusal::Bad(bad)),
-        CatAnswer::Unavailable => Reply::Unavailable,
-        CatAnswer::Given(_) | CatAnswer::Cut(_) | CatAnswer::SinkFault => unreachable!(),
-    }
-}
 
 /// Writes the reply to a path that gave nothing.
 pub fn send_nothing<K: Sink>(sink: &mut K, answer: CatAnswer) -> Result<(), Fault>

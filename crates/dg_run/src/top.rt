@@ -7,7 +7,7 @@ ghost use Rattle.dg_run.specs.Completes.{Completes};
 ghost use Rattle.dg_run.specs.Ends.{AreNoCommand, Ends, EndsUsage, reads_input, uses_array};
 ghost use Rattle.dg_run.specs.Statuses.{code_of};
 ghost use Rattle.dg_text.specs.Replies.{usage};
-ghost use Rattle.dg_words.specs.Commands.{HasValues, IsCommand};
+ghost use Rattle.dg_words.specs.Commands.{HasValues, IsCommand, TakesMemory};
 ghost use Rattle.dg_words.specs.declared.commands.Command.{Command};
 
 use crate::audits::serve_audit;
@@ -133,6 +133,9 @@ pub fn run<S: Source, K: Sink, R: Rack>(
     ensures other { AreNoCommand (map string_bytes words.now.items)
         → EndsUsage (facts_of S.Source K.Sink R.Rack source.old source.new sink.old sink.new rack.old rack.new) result
         × (source.new ≡ source.old) × (rack.new ≡ rack.old) }
+
+    // Memory is wanting only for a command, or for words of the form of one that takes values.
+    ensures plain { result ≡ Status.NoMemory → AreNoCommand (map string_bytes words.now.items) → TakesMemory (map string_bytes words.now.items) }
 
     // A command that reads no input makes no call on the source, and one that uses no array none on the rack.
     ensures quiet { (command : Command) → IsCommand (map string_bytes words.now.items) command → reads_input command ≡ false

@@ -1,6 +1,5 @@
 mod Lined
 mod Opened
-mod PathReplies
 mod Served
 mod TextLines
 mod Unopened

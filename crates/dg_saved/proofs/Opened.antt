@@ -50,7 +50,7 @@ module _ {R : Type 0} (rack : Ghosts R) (before : R) (volume new : Volume AnyPha
         next = one.0;
         step = step_less all at.state event reply one.0 one.2;
         counts = ap (λ (s : State). s.counts) one.1.is;
-        holds = λ known. holds_all rack new any_phase one.0 one.1 (all known);
+        holds = λ known. holds_all rack new any_phase one.0 leaves.well one.1 (all known);
       }
 
   has_run : (event : Event) (reply : Reply) → Steps rack volume event reply new → HasRun told was event reply
@@ -96,7 +96,7 @@ module _ {R : Type 0} (rack : Ghosts R) (before : R) (volume : Volume AnyPhase R
           state = at.state;
           is = is_opened rack before volume volume hot taken given opened stays V;
           text_is = is ∙ sym (ap status_text at.stands.is);
-          holds = λ known. holds_all rack volume any_phase at.state at.stands (known_now rack before volume volume hot taken given opened stays V known);
+          holds = λ known. holds_all rack volume any_phase at.state opened.well at.stands (known_now rack before volume volume hot taken given opened stays V known);
         };
   }
 

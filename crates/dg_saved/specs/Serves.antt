@@ -30,7 +30,7 @@ reply_at SinkFault = None
 
 -- whichever state the volume was in, it made a step from it, to a state that it is in now
 abbrev pub Steps : {R : Type 0} → Ghosts R → Volume AnyPhase R → Event → Reply → Volume AnyPhase R → Type 0
-Steps rack old event reply new = (origin : Origin R) (state : State) → StandsIn any_phase rack (WasHeld rack origin) old state →
+Steps {R = R} rack old event reply new = (origin : Origin R) (state : State) → StandsIn any_phase rack (WasHeld rack origin) old state →
     (next : State) × StandsIn any_phase rack (WasHeld rack origin) new next × Step (Known (WasHeld rack origin) rack new) state event reply next
 
 -- the event was answered by a reply that gives what was asked for, or by one that doesn't, and its text was printed

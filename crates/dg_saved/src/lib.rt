@@ -13,4 +13,5 @@ mod texts;
 pub use ends::{Ended, SavedEnd};
 pub use files::cat_saved;
 pub use listings::ls_saved;
+pub use replies::reply_at;
 pub use shows::show_status;

@@ -13,7 +13,7 @@ use dg_volume::CatAnswer;
 use ufs_model::PathRefusal;
 
 /// The reply to a path that gave nothing.
-fn reply_at(answer: CatAnswer) -> Reply
+pub fn reply_at(answer: CatAnswer) -> Reply
     requires { IsSome (reply_at answer) }
     ensures is { reply_at answer ≡ Some result }
 {

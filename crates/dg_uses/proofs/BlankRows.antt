@@ -55,7 +55,7 @@ abbrev streams : Option (List ℕ) → Option (List ℕ) → Option (List ℕ) �
 streams left rest taken given = record { left = left; rest = rest; taken = taken; given = given }
 
 -- what stands in a sink that took this text, where it tells it
-took : (given : Option (List ℕ)) (text printed : List ℕ) → Told (Took text) (Some []) given → given ≡ Some printed → printed ≡ text
+pub took : (given : Option (List ℕ)) (text printed : List ℕ) → Told (Took text) (Some []) given → given ≡ Some printed → printed ≡ text
 took None text printed told is = absurd (cc is)
 took (Some all) text printed told is = let same : all ≡ printed = cc is in sym same ∙ told
 

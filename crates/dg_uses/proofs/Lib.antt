@@ -4,6 +4,7 @@ mod BlankAudits
 mod BlankRows
 pub mod Chains
 pub mod Cores
+mod DrilledLaws
 mod Ended
 mod Flat
 pub mod InUse
@@ -38,3 +39,4 @@ mod StayWhole
 pub mod StepViews
 mod TakenAway
 pub mod TracedLaws
+mod WordRows

@@ -1,4 +1,5 @@
 pub mod Answers
+pub mod Drilled
 pub mod Promises
 pub mod Replays
 pub mod Saves

@@ -11,9 +11,9 @@ use dg_run::{Status, run};
 use std::alloc::Global;
 
 // Bytes of a member of the array 1024 64 4 32 2, and of all that is printed.
-const LENGTH: u64 = 35_817;
+pub const LENGTH: u64 = 35_817;
 
-const OUTPUT: usize = 256;
+pub const OUTPUT: usize = 256;
 
 /// A run that came to its end: how, and what its objects hold then.
 #[derive(Drop)]
@@ -50,7 +50,7 @@ fn trace_words(alloc: Global) -> Result<Vec<String>, NoMemory>
 }
 
 // The word `status`.
-fn status_words(alloc: Global) -> Result<Vec<String>, NoMemory>
+pub fn status_words(alloc: Global) -> Result<Vec<String>, NoMemory>
     ensures { IfOk result (λ words. IsCommand (map string_bytes words.items) Command.Status) }
 {
     let mut words = Vec::new(alloc);

@@ -4,6 +4,7 @@
 
 mod answers;
 mod blanks;
+mod drilled;
 mod laws;
 mod mirrors;
 mod promises;
@@ -12,9 +13,11 @@ mod replays;
 mod resumed;
 mod saves;
 mod traced;
+mod words;
 
 pub use answers::{answer_an_image, audit_an_image, replay_lines};
 pub use blanks::{Answer, find_no_array, refuse_an_empty_image};
+pub use drilled::drill_and_lose;
 pub use laws::{answers_are_promised, replies_are_a_function, replies_by_views};
 pub use mirrors::reads_past_the_last_block_are_refused;
 pub use promises::cats_keep_their_promise;
@@ -29,3 +32,4 @@ pub use saves::{
     saved_blocks_are_read_again, saves_are_found_again,
 };
 pub use traced::trace_and_replay;
+pub use words::{ask_for_a_status, refuse_no_words};

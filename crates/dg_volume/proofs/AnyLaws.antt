@@ -40,6 +40,7 @@ module _ {S R : Type 0} (phase : phases.Ghosts S) (rack : Ghosts R) where
     inferred = subst (λ (k : Option KeptInference). IfSome k (FitsArray (shape_of volume))) (sym h.kept_is) well.inferred;
     labeled = well.labeled;
     in_use = well.in_use;
+    long = well.long;
     homes_are = well.homes_are;
     few_homes = well.few_homes;
     copies_are = well.copies_are;

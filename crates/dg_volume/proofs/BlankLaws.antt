@@ -156,6 +156,7 @@ module _ {R : Type 0} (rack : Ghosts R) (shape : Shape) (before : R) (volume : V
           subst (λ (x : Shape). IsLabeled rack x volume.store volume.label) own_line
           (subst (λ (k : Option KeptLabel). IsLabeled rack (shape_of volume) volume.store k) (sym plain.label) (blank_labeled rack shape before volume.store blank));
       in_use = in_use_all;
+      long = omega (arith, plain.long, plain.boundaries);
       homes_are = subst (λ (x : List Home). AreHomes (shape_of volume) x) (sym plain.homes) (no_homes (shape_of volume));
       few_homes = subst (λ (x : List Home). length x ≤ (shape_of volume).n) (sym plain.homes) (omega arith);
       copies_are = subst (λ (x : List Home). AreHomes (shape_of volume) x) (sym plain.copies) (no_homes (shape_of volume));

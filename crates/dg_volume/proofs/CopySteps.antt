@@ -32,7 +32,7 @@ use Rattle.dg_model.specs.declared.wants.Want.TheVariants.{File, Kept, Stray}
 use Rattle.dg_volume.proofs.HomeLaws.{are_homes}
 use Rattle.dg_volume.proofs.PlacedLaws.{off_table}
 use Rattle.dg_store.specs.Answers.{SameWritten}
-use Rattle.dg_volume.proofs.UseLaws.{fits_same, least_here, least_on}
+use Rattle.dg_volume.proofs.UseLaws.{fits_same, least_here, least_on, long_on}
 use Rattle.dg_volume.proofs.VolumeLaws.{Labels, StepsAt, label_by, labeled_by, line_same, on_label, under_by}
 use Rattle.dg_volume.specs.Origins.{Origin, WasHeld}
 use Rattle.dg_volume.specs.Copies.{StepsHot, diffuse_reply}
@@ -172,6 +172,7 @@ module _ {S R : Type 0} (phase : phases.Ghosts S) (rack : Ghosts R) where
             inferred = subst (λ (p : S). IfSome (phase.kept p) (FitsArray (shape_of b))) (sym h.phase_is) fits;
             labeled = labeled_by rack a b line h.labels well.labeled;
             in_use = fits_same a b h.in_use same_shape h.written well.in_use;
+            long = long_on a b h.in_use well.long;
             homes_are = subst (λ (x : List Home). AreHomes (shape_of b) x) (sym h.homes) homes;
             few_homes =
                 subst (λ (x : List Home). length x ≤ (shape_of b).n) (sym h.homes)

@@ -1,5 +1,5 @@
 -- What is left of the homes of an array, of its boundaries in use and of its cut blocks without the lost boundaries.
-use Rattle.std.proofs.Common.{◌≡◌, ◌∙◌, ◌<◌, ◌≤◌, ◌+◌, ◌||◌, ◌⊎◌, ℕ, suc, Bool, true, false, cond, List, [], ◌∷◌, ◌++◌, length, map, get_or, filter, not, inl, inr, refl, sym, ap, subst, arith}
+use Rattle.std.proofs.Common.{◌≡◌, ◌∙◌, ◌<◌, ◌≤◌, ◌+◌, ◌||◌, ◌⊎◌, ℕ, suc, Bool, true, false, cond, List, [], ◌∷◌, length, map, get_or, filter, not, inl, inr, refl, sym, ap, subst, arith}
 use Rattle.std.specs.Prelude.{◌^◌, All, IfSome, None, Option, Some, option_to_list}
 use Rattle.std.specs.List.{range_with_len}
 use Rattle.std.specs.List.Sorted.{IsStrictlyIncreasing}
@@ -13,7 +13,7 @@ use Rattle.std.proofs.lemmas.List.FromFn.{get_or-map-range_with_len, get_or-rang
 use Rattle.std.proofs.lemmas.List.Filters.{length-filter_both}
 use Rattle.dg_model.proofs.RegroupLaws.{left_ascend, place_at, rises, sites_of_left}
 use Rattle.dg_model.specs.Homes.{home_of}
-use Rattle.dg_model.specs.Lives.{AreLive, boundary_at, left_of, place_in}
+use Rattle.dg_model.specs.Lives.{boundary_at, left_of, place_in}
 use Rattle.dg_model.specs.Marks.{is_marked}
 use Rattle.dg_model.specs.Members.{is_lost}
 use Rattle.dg_model.specs.Openings.{FitsReduced, Reduced}

@@ -4,6 +4,8 @@ mod AuditSteps
 mod BlankLaws
 mod CopySteps
 mod CutLaws
+mod DiskLaws
+mod DiskSteps
 mod FaultLaws
 mod FewLaws
 mod FileAnswers

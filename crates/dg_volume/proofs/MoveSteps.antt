@@ -33,7 +33,7 @@ use Rattle.dg_store.specs.Stores as stores
 use Rattle.dg_store.specs.declared.store.Store.{Store}
 use Rattle.dg_volume.proofs.ArrayLaws.{told_by, told_moved}
 use Rattle.dg_volume.proofs.LabelLaws.{good_falls, relabels_behind}
-use Rattle.dg_volume.proofs.UseLaws.{fits_same, least_here, least_on}
+use Rattle.dg_volume.proofs.UseLaws.{fits_same, least_here, least_on, long_on}
 use Rattle.dg_volume.proofs.VolumeLaws.{HasRead, IsBeside, Labels, label_by, labeled_by, line_same, on_label, read_state, reads_in, reads_stay, same_in, steps_from, under_by}
 use Rattle.dg_volume.specs.Origins.{WasHeld}
 use Rattle.dg_volume.specs.Numbers.{unsettled_by}
@@ -91,6 +91,7 @@ module _ {S R : Type 0} (phase : phases.Ghosts S) (rack : Ghosts R) where
           inferred = subst (λ (p : S). IfSome (phase.kept p) (FitsArray (shape_of b))) (sym h.phase_is) fits;
           labeled = labeled_by rack a b (line_moved a b h) h.labels well.labeled;
           in_use = fits_same a b h.in_use shape h.written well.in_use;
+          long = long_on a b h.in_use well.long;
           homes_are = h.homes_are;
           few_homes = h.few_homes;
           copies_are = subst (λ (x : List Home). AreHomes (shape_of b) x) (sym h.copies) copies;

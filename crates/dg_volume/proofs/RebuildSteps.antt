@@ -48,7 +48,7 @@ use Rattle.dg_volume.proofs.ReapLaws.{are_without, by_without, fit_without, plac
 use Rattle.dg_volume.proofs.RebuildMarks.{both_out, by_loss, copied_not_lost, dead_mark, failed_not_lost, if_some, mark_dead, mark_free, none_passed, reaped_stands, stands_has, stray_at}
 use Rattle.dg_volume.proofs.RefillBehind.{HasSlots, falls_behind, filling_was, live_before, lost_behind, others_behind, slots_behind}
 use Rattle.dg_volume.proofs.RefillLaws.{filling_live, left_outs, lost_none_filling, lost_where_left}
-use Rattle.dg_volume.proofs.UseLaws.{HasPlace, IsUnused, fits_as, lost_in, lost_of, place_on, unused_lost}
+use Rattle.dg_volume.proofs.UseLaws.{HasPlace, IsUnused, fits_as, long_on, lost_in, lost_of, place_on, unused_lost}
 use Rattle.dg_volume.proofs.VolumeLaws.{IsBeside, Keeps, Labels, StepsAt, holds_on, kept_state, label_by, labeled_by, leaves, line_same, lost_on, on_label, quiet_in, still_in, under_by}
 use Rattle.dg_volume.proofs.VolumeSteps.{false_of}
 use Rattle.dg_volume.specs.Origins.{Origin, WasHeld}
@@ -330,6 +330,7 @@ module _ {S R : Type 0} (phase : phases.Ghosts S) (rack : Ghosts R) where
           inferred = subst (λ (p : S). IfSome (phase.kept p) (FitsArray (shape_of b))) (sym h.beside.phase_is) fits;
           labeled = labeled_by rack a b (line_same a b (ap (λ (u : InUse). u.long) h.beside.in_use) same_shape) h.labels well.labeled;
           in_use = fits_as a b h.beside.in_use same_shape (λ c none. subst (λ (xs : List Site). has_site xs ≡ false) (sym (sites c)) (bare_left (is_among reaped c) (sites_in (table_of a) c) none)) well.in_use;
+          long = long_on a b h.beside.in_use well.long;
           homes_are = subst (λ (x : List Home). AreHomes (shape_of b) x) (sym h.beside.homes) homes;
           few_homes =
               subst (λ (x : List Home). length x ≤ (shape_of b).n) (sym h.beside.homes)

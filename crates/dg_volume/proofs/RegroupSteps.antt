@@ -14,6 +14,7 @@ use Rattle.dg_label.specs.Seals.{HasGood, HasNoGood, OpensSeal}
 use Rattle.dg_label.specs.declared.labels.KeptLabel.{KeptLabel}
 use Rattle.dg_model.proofs.MemberLaws.{good_was}
 use Rattle.dg_model.specs.Changes.{Goes, phase_after}
+use Rattle.dg_model.specs.Homes.{Ascend}
 use Rattle.dg_model.specs.Lives.{boundary_at}
 use Rattle.dg_model.specs.Marks.{AreNext, is_marked}
 use Rattle.dg_model.specs.Members.{is_good, is_lost}
@@ -30,7 +31,6 @@ use Rattle.dg_model.specs.declared.members.MemberState.{MemberState}
 use Rattle.dg_model.specs.declared.phases.Phase.TheVariants.{Loose as LoosePhase, Settled as SettledPhase, Worn as WornPhase}
 use Rattle.dg_model.specs.declared.replies.Reply.TheVariants.{Regrouped, TooFew, Whole}
 use Rattle.dg_model.specs.declared.shapes.Shape.{Shape}
-use Rattle.dg_promise.proofs.RegroupSteps.{homes_ascend}
 use Rattle.dg_regroup.specs.Cuts.{IsCutOver, IsTooFew}
 use Rattle.dg_regroup.specs.declared.cut_overs.CutOver.{CutOver}
 use Rattle.dg_store.specs.Reduced.{blocks_left, left_in}
@@ -110,6 +110,10 @@ pub not_few : {A : Type 0} (found : Option A) (one : A) (Few : Type 0) → found
 not_few found one Few is none few = cc (sym is ∙ none few)
 
 -- ---- the phase
+
+-- a law of the homes that are left
+abbrev pub HomesLeftAscend : Type 0
+HomesLeftAscend = (left : List ℕ) (copies homes : List Home) → Ascend homes → Ascend (homes_left left copies homes)
 
 module _ {R : Type 0} (rack : Ghosts R) where
   module _ (old new : Store R) (pending : List Bool) where
@@ -292,6 +296,7 @@ module _ {R : Type 0} (rack : Ghosts R) where
       pub label_is : f.label ≡ b.label
       pub are_left : LabelsAreLeft rack boundaries dropped
       pub stand_left : LabelsStandLeft rack boundaries dropped
+      pub ascend : HomesLeftAscend
 
     module _ (a m : Volume AnyPhase R) (remains : Remains) (b f : Volume AnyPhase R) (h : HasReduced a m remains b f) where
       abbrev left : List ℕ
@@ -515,11 +520,18 @@ module _ {R : Type 0} (rack : Ghosts R) where
           λ i. record { boundaries = sym (ap (λ (u : InUse). u.boundaries) h.in_use ∙ h.out.boundaries_are) i; live = sym (ap (λ (u : InUse). u.live.items) h.in_use ∙ h.out.live_is) i; cut = sym (ap (λ (u : InUse). u.cut.items) h.in_use ∙ h.out.cut_is) i } in
           subst (λ (t : Table). FitsReduced t (reduced_of f)) (sym table) (subst (λ (r : Reduced). FitsReduced (table_left left (table_of m)) r) now fits)
 
+      long_f : f.in_use.long ≤ f.in_use.boundaries
+      long_f =
+          let less = (open_leaves a m h.unsealed).well.long in
+          let long = ap (λ (u : InUse). u.long) h.in_use ∙ h.out.long_is in
+          let boundaries = ap (λ (u : InUse). u.boundaries) h.in_use ∙ h.out.boundaries_are in
+          omega (arith, less, long, boundaries)
+
       homes_f : AreHomes (shape_of f) f.homes × (length f.homes ≤ (shape_of f).n)
       homes_f =
           let well = (open_leaves a m h.unsealed).well in
           let are : AreHomes (shape_left left (shape_of m)) (homes_left left m.copies m.homes) =
-          (homes_ascend left m.copies m.homes well.homes_are.0, homes_fit left (shape_of m).b m.copies m.homes well.homes_are.1) in
+          (h.ascend left m.copies m.homes well.homes_are.0, homes_fit left (shape_of m).b m.copies m.homes well.homes_are.1) in
           let most = homes_few left m.copies m.homes in
           let few : length (homes_left left m.copies m.homes) ≤ (shape_of m).n = let all = well.few_homes in omega (arith, most, all) in
           subst (λ (x : List Home). AreHomes (shape_of f) x × (length x ≤ (shape_of f).n)) (sym (h.homes ∙ h.out.homes_are))
@@ -535,6 +547,7 @@ module _ {R : Type 0} (rack : Ghosts R) where
             inferred = fits.inferred;
             labeled = labeled_f;
             in_use = in_use_f;
+            long = long_f;
             homes_are = homes_f.0;
             few_homes = homes_f.1;
             copies_are = subst (λ (x : List Home). AreHomes (shape_of f) x) (sym none) (no_homes (shape_of f));

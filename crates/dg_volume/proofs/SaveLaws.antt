@@ -173,6 +173,7 @@ module _ {S R : Type 0} (phase : phases.Ghosts S) (rack : Ghosts R) where
       inferred = subst (λ (x : Shape). IfSome (phase.kept a.phase) (FitsArray x)) (sym shape) well.inferred;
       labeled = subst (λ (x : Shape). IsLabeled rack x store label) (sym line) labeled;
       in_use = fits_table a after refl keeps.table well.in_use;
+      long = well.long;
       homes_are = subst (λ (x : Shape). AreHomes x a.homes) (sym shape) well.homes_are;
       few_homes = subst (λ (x : Shape). length a.homes ≤ x.n) (sym shape) well.few_homes;
       copies_are = subst (λ (x : Shape). AreHomes x a.copies) (sym shape) well.copies_are;

@@ -151,6 +151,7 @@ module _ {S T R : Type 0} (from : phases.Ghosts S) (to : phases.Ghosts T) (rack 
       inferred = subst (λ (k : Option KeptInference). IfSome k (FitsArray (shape_of b))) (sym is.kept_is) left.well.inferred;
       labeled = left.well.labeled;
       in_use = left.well.in_use;
+      long = left.well.long;
       homes_are = left.well.homes_are;
       few_homes = left.well.few_homes;
       copies_are = left.well.copies_are;

@@ -1,5 +1,5 @@
 -- Volumes of the boundaries in use: the places of boundaries that are told by their numbers, and cut blocks without a site.
-use Rattle.std.proofs.Common.{◌≡◌, ◌∙◌, ◌<◌, ◌+◌, ◌*◌, ◌/◌, ℕ, true, false, List, length, refl, sym, ap, subst, arith}
+use Rattle.std.proofs.Common.{◌≡◌, ◌∙◌, ◌<◌, ◌≤◌, ◌+◌, ◌*◌, ℕ, true, false, List, length, refl, sym, ap, subst, arith}
 use Rattle.std.specs.List.Sorted.{IsStrictlyIncreasing}
 use Rattle.dg_io.specs.declared.outside.Rack.{Ghosts}
 use Rattle.dg_model.specs.Lives.{boundary_at, place_in}
@@ -51,6 +51,10 @@ module _ {S T R : Type 0} where
   pub fits_same : (a : Volume S R) (b : Volume T R) → b.in_use ≡ a.in_use → shape_of b ≡ shape_of a → SameWritten (table_of a) (table_of b) → FitsReduced (table_of a) (reduced_of a)
       → FitsReduced (table_of b) (reduced_of b)
   fits_same a b same shape written fits = fits_as a b same shape (λ c none. written c ∙ none) fits
+
+  -- members are as long by no more boundaries than the first line has
+  pub long_on : (a : Volume S R) (b : Volume T R) → b.in_use ≡ a.in_use → a.in_use.long ≤ a.in_use.boundaries → b.in_use.long ≤ b.in_use.boundaries
+  long_on a b same less = subst (λ (u : InUse). u.long ≤ u.boundaries) (sym same) less
 
   -- the least boundary that is lost is so by its number
   pub least_on : (a : Volume S R) (b : Volume T R) (place : ℕ) → FitsReduced (table_of a) (reduced_of a) → b.in_use ≡ a.in_use → shape_of b ≡ shape_of a

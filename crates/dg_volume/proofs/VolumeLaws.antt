@@ -26,7 +26,7 @@ use Rattle.dg_store.specs.Stores.{IsSound, KeepsBlocks}
 use Rattle.dg_store.specs.Views.{ReadsOn}
 use Rattle.dg_volume.proofs.FaultLaws.{keeps_outs, keeps_tells}
 use Rattle.dg_volume.proofs.LabelLaws.{keeps_label, relabels_read, stands_same}
-use Rattle.dg_volume.proofs.UseLaws.{fits_table}
+use Rattle.dg_volume.proofs.UseLaws.{fits_table, long_on}
 use Rattle.dg_volume.specs.Origins.{Origin, WasHeld}
 use Rattle.dg_volume.specs.Faults.{OutsStay, TellsFaults}
 use Rattle.dg_volume.specs.Seals.{Relabels}
@@ -126,6 +126,7 @@ module _ {S R : Type 0} (phase : phases.Ghosts S) (rack : Ghosts R) where
         inferred = subst (λ (p : S). IfSome (phase.kept p) (FitsArray (shape_of b))) (sym keeps.beside.phase_is) fits;
         labeled = labeled_by rack a b (line_same a b (ap (λ (u : InUse). u.long) keeps.beside.in_use) shape) keeps.labels keeps.labeled;
         in_use = fits_table a b keeps.beside.in_use keeps.table well.in_use;
+        long = long_on a b keeps.beside.in_use well.long;
         homes_are = subst (λ (x : List Home). AreHomes (shape_of b) x) (sym keeps.beside.homes) homes;
         few_homes =
             subst (λ (x : List Home). length x ≤ (shape_of b).n) (sym keeps.beside.homes)

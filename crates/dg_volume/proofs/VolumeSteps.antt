@@ -53,14 +53,14 @@ struck_same q old new paired out struck p = elim (cases_eq p q) [
 ]
 
 -- a member that was out stays so
-struck_out : (q : ℕ) (old new : ℕ → MemberState) → IsStruck q old new → (p : ℕ) → old p ≡ Out → new p ≡ Out
+pub struck_out : (q : ℕ) (old new : ℕ → MemberState) → IsStruck q old new → (p : ℕ) → old p ≡ Out → new p ≡ Out
 struck_out q old new struck p out = elim (cases_eq p q) [
   | inl here ↦ ap new here ∙ struck.out
   | inr other ↦ elim (struck.others p other) [ inl same ↦ same ∙ out | inr gone ↦ gone.1 ]
 ]
 
 -- one that is refilled was so before
-struck_fills : (q : ℕ) (old new : ℕ → MemberState) → IsStruck q old new → (p : ℕ) → is_filling (new p) ≡ true → is_filling (old p) ≡ true
+pub struck_fills : (q : ℕ) (old new : ℕ → MemberState) → IsStruck q old new → (p : ℕ) → is_filling (new p) ≡ true → is_filling (old p) ≡ true
 struck_fills q old new struck p fills = elim (cases_eq p q) [
   | inl here ↦ absurd (false≢true (sym (ap is_filling (ap new here ∙ struck.out)) ∙ fills))
   | inr other ↦ elim (struck.others p other) [ inl same ↦ sym (ap is_filling same) ∙ fills | inr gone ↦ gone.0 ]

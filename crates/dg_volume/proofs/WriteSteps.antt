@@ -34,7 +34,7 @@ use Rattle.dg_model.specs.declared.phases.Phase.TheVariants.{Loose as LoosePhase
 use Rattle.dg_model.specs.declared.replies.Reply.TheVariants.{Degraded, Done, Range}
 use Rattle.dg_model.specs.declared.shapes.Shape.{Shape}
 use Rattle.dg_model.specs.declared.sites.Site.{Site}
-use Rattle.dg_store.specs.Answers.{IsAllLost}
+use Rattle.dg_store.specs.Answers.{IsAllLost, SameWritten}
 use Rattle.dg_store.specs.Leaves.{CallsAtMost, CallsBelow, NoFault}
 use Rattle.dg_store.specs.Stores.{IsSound, KeepsBlocks}
 use Rattle.dg_store.specs.ReadLaws.{own_none, rack_none, rises_both}
@@ -46,12 +46,14 @@ use Rattle.dg_volume.proofs.FaultLaws.{falls_out, keeps_outs, keeps_tells, outs_
 use Rattle.dg_volume.proofs.LabelLaws.{relabels_none, relabels_then, slots_kept}
 use Rattle.dg_volume.proofs.MoveSteps.{loose_not_settled, loose_not_worn}
 use Rattle.dg_volume.proofs.PlaceLaws.{fits_written}
+use Rattle.dg_volume.proofs.UseLaws.{fits_same}
 use Rattle.dg_volume.proofs.VolumeLaws.{IsBeside, Keeps, Labels, kept_state, label_by, labeled_by, leaves, line_same, lost_on, on_label, same_in, stays, steps_from, still_in, under_by}
 use Rattle.dg_volume.specs.Origins.{WasHeld}
 use Rattle.dg_volume.specs.Faults.{OutsStay, TellsFaults}
 use Rattle.dg_volume.specs.Seals.{FallsOn, HasStoredBlock, Relabels, opening_calls}
 use Rattle.dg_volume.specs.Volumes.{FitsArray, HasLabel, IsWell, Known, Leaves, StandsFor, StandsIn, StandsUnder, Tells, cut_of, given_of, line_of, marks_by, marks_of, members_of, rack_of, reduced_of, shape_of, state_of, table_of}
 use Rattle.dg_volume.specs.Writes.{IsFollowed, RereadsFew, WritesTo}
+use Rattle.dg_volume.specs.declared.in_use.InUse.{InUse}
 use Rattle.dg_volume.specs.declared.phases.InPhase as phases
 use Rattle.dg_volume.specs.declared.volumes.Volume.{Volume}
 
@@ -208,6 +210,7 @@ module _ {S T R : Type 0} (from : phases.Ghosts S) (to : phases.Ghosts T) (rack 
       inferred = subst (λ (x : Shape). IfSome (to.kept c.phase) (FitsArray x)) (sym h.shape) h.fits;
       labeled = h.labeled;
       in_use = h.in_use;
+      long = let less = well.long in let long : c.in_use.long ≡ a.in_use.long = ap (λ (x : Shape). x.b) h.line in omega (arith, less, long, h.boundaries);
       homes_are = subst (λ (x : Shape). AreHomes x c.homes) (sym h.shape) (subst (λ (x : List Home). AreHomes (shape_of a) x) (sym h.homes) well.homes_are);
       few_homes = subst (λ (x : Shape). length c.homes ≤ x.n) (sym h.shape) (subst (λ (x : List Home). length x ≤ (shape_of a).n) (sym h.homes) well.few_homes);
       copies_are = subst (λ (x : Shape). AreHomes x c.copies) (sym h.shape) h.copies;
@@ -524,10 +527,39 @@ module _ {S T R : Type 0} (from : phases.Ghosts S) (to : phases.Ghosts T) (rack 
     };
   }
 
--- ---- want of memory behind a write
+-- ---- want of memory
 
 module _ {S T R : Type 0} (from : phases.Ghosts S) (to : phases.Ghosts T) (rack : Ghosts R) where
-  -- a loose volume is left
+  -- before a write: what is inferred stays, and no copies are left
+  pub unwritten_leaves : (a : Volume S R) (c : Volume T R) → IsWell from rack a → FallsOn rack a.store c.store → SameWritten (table_of a) (table_of c) → c.in_use ≡ a.in_use
+      → c.levels.fragment ≡ a.levels.fragment → c.pending ≡ a.pending → c.homes ≡ a.homes → c.copies ≡ [] → to.kept c.phase ≡ from.kept a.phase
+      → (to.phase c.phase ≡ WornPhase → ⊥) → (to.phase c.phase ≡ SettledPhase → ⊥) → Labels rack a c → Leaves from to rack a c
+  unwritten_leaves a c well falls written in_use levels pending homes copies kept worn settled labels =
+      let shape : shape_of c ≡ shape_of a = falls.stays.shape in
+      let line = line_same a c (ap (λ (u : InUse). u.long) in_use) shape in
+      left_leaves from to rack a c well (record {
+        sound = falls.sound;
+        shape = shape;
+        rise = falls.stays.stays.rise;
+        tells = falls.stays.stays.tells;
+        told_before = falls.stays.stays.told_before;
+        own = falls.stays.own;
+        same_rack = falls.stays.stays.same_rack;
+        levels = levels;
+        boundaries = ap (λ (u : InUse). u.boundaries) in_use;
+        line = line;
+        homes = homes;
+        copies = subst (λ (x : List Home). AreHomes (shape_of a) x) (sym copies) (no_homes (shape_of a));
+        marks = λ i. length (marks_by (kept i) ((pending i).items));
+        fits = subst (λ (o : Option KeptInference). IfSome o (FitsArray (shape_of a))) (sym kept) well.inferred;
+        labeled = labeled_by rack a c line labels well.labeled;
+        in_use = fits_same a c in_use shape written well.in_use;
+        uncopied = copies;
+        worn = λ is. absurd (worn is);
+        settled = settled;
+      })
+
+  -- behind a write: a loose volume is left
   pub loosened_leaves : (a : Volume S R) (m : Store R) (kept now : KeptInference) (c : Volume T R) → IsWell from rack a → FitsReduced (table_of c) (reduced_of c) → c.in_use.boundaries ≡ a.in_use.boundaries → c.in_use.long ≡ a.in_use.long → FallsOn rack a.store m → IsSound rack c.store → ReadsOn rack m c.store
       → c.levels.fragment ≡ a.levels.fragment → c.homes ≡ a.homes → c.copies ≡ [] → from.kept a.phase ≡ Some kept → to.kept c.phase ≡ Some now → to.phase c.phase ≡ LoosePhase
       → (now.l ≡ kept.l) × (now.n ≡ kept.n) → length now.pending ≡ length kept.pending → Labels rack a c → Leaves from to rack a c

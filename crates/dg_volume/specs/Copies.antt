@@ -26,5 +26,5 @@ any_diffuse_reply NotSettled = NotSettledReply
 -- Whichever state the volume was in, of those in which these files were read last, it made a step from it, to a state that it is in now,
 -- and they were read last in that one too.
 abbrev pub StepsHot : {S T R : Type 0} → phases.Ghosts S → phases.Ghosts T → Ghosts R → List ℕ → Volume S R → Event → Reply → Volume T R → Type 0
-StepsHot from to rack hot old event reply new = (origin : Origin R) (state : State) → StandsIn from rack (WasHeld rack origin) old state → state.recent ≡ hot →
+StepsHot {R = R} from to rack hot old event reply new = (origin : Origin R) (state : State) → StandsIn from rack (WasHeld rack origin) old state → state.recent ≡ hot →
     (next : State) × StandsIn to rack (WasHeld rack origin) new next × Step (Known (WasHeld rack origin) rack new) state event reply next × (next.recent ≡ state.recent)

@@ -1,12 +1,15 @@
 -- What calls leave one after another, and what the members of a rack hold of a volume's state. It stands here since the crates above cite it.
-use Rattle.std.proofs.Common.{◌≡◌, ◌<◌, ◌/◌, ℕ, sym, subst}
-use Rattle.std.specs.Prelude.{IsSome}
+use Rattle.std.proofs.Common.{◌≡◌, ◌<◌, ◌/◌, ℕ, length, sym, subst, arith}
+use Rattle.std.specs.Prelude.{IfSome, IsSome, None, Option, Some}
 use Rattle.dg_io.specs.declared.outside.Rack.{Ghosts}
+use Rattle.dg_label.specs.Labels.{AreSized}
+use Rattle.dg_label.specs.LineLaws.{label_of_whole}
+use Rattle.dg_model.specs.Seals.{LastLabel}
 use Rattle.dg_model.specs.States.{AreFresh, Holds, HoldsAll, State}
 use Rattle.dg_model.specs.declared.shapes.Shape.{Shape}
 use Rattle.dg_store.specs.Leaves.{CallsBelow}
 use Rattle.dg_store.specs.ReadLaws.{own_both, own_none}
-use Rattle.dg_volume.specs.Volumes.{Known, StandsIn, Tells, rack_of, shape_of}
+use Rattle.dg_volume.specs.Volumes.{IsWell, Known, StandsIn, StandsUnder, Tells, line_of, live_of, rack_of, shape_of}
 use Rattle.dg_volume.specs.declared.phases.InPhase as phases
 use Rattle.dg_volume.specs.declared.volumes.Volume.{Volume}
 
@@ -31,11 +34,25 @@ module _ {S R : Type 0} (rack : Ghosts R) (volume : Volume S R) where
   pub tells_now : TellsTold rack → TellsNow → Tells rack volume
   tells_now law told q below = law (rack_of volume) q (told q below)
 
+  -- where all boundaries are in use, members are as long by its own numbers
+  line_whole : (phase : phases.Ghosts S) → IsWell phase rack volume → length (live_of volume) ≡ volume.in_use.boundaries → shape_of volume ≡ line_of volume
+  line_whole phase well whole =
+      let same : (shape_of volume).b ≡ volume.in_use.long = let number = well.in_use.number in let fewer = well.labeled.fits.fewer in let most = well.long in
+      omega (arith, whole, number, fewer, most) in
+      λ i. record (shape_of volume) { b = same i }
+
+  sized_whole : (last : Option LastLabel) → shape_of volume ≡ line_of volume → StandsUnder rack volume last → IfSome last (AreSized rack volume.store)
+  sized_whole None same stands = tt
+  sized_whole (Some last) same stands = (label_of_whole rack (line_of volume) volume.store volume.label last same stands).1
+
   -- the members hold a state in which the volume is
-  pub holds_all : {P : Type 0} (phase : phases.Ghosts S) (state : State) → StandsIn phase rack P volume state → Known P rack volume → HoldsAll (rack.bytes (rack_of volume)) state
-  holds_all phase state stands told = record {
+  pub holds_all : {P : Type 0} (phase : phases.Ghosts S) (state : State) → IsWell phase rack volume → StandsIn phase rack P volume state → Known P rack volume
+      → HoldsAll (rack.bytes (rack_of volume)) state
+  holds_all phase state well stands told = record {
     blocks = subst (λ (s : State). Holds (rack.bytes (rack_of volume)) s) (sym stands.is) (stands.holds told).array;
     label = stands.label.holds;
-    sizes = λ whole. stands.label.sizes;
+    sizes = λ whole.
+        let all : length (live_of volume) ≡ volume.in_use.boundaries = subst (λ (s : State). length s.live ≡ s.boundaries) stands.is whole in
+        sized_whole state.label (line_whole phase well all) stands.label;
     fresh = subst (λ (s : State). AreFresh (rack.bytes (rack_of volume)) s) (sym stands.is) stands.label.fresh;
   }

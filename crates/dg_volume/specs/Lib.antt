@@ -2,6 +2,7 @@ pub mod Audits
 pub mod LostFiles
 pub mod Copies
 pub mod CutReads
+pub mod Disks
 pub mod Faults
 pub mod Fronts
 pub mod HeldLaws

@@ -81,7 +81,7 @@ AnswersCat took took_part faults old new l gives holds SinkFault =
 
 -- Wherever a volume is told in the end, the file at a path had this inode.
 abbrev pub HasFileAt : {S R : Type 0} → phases.Ghosts S → Ghosts R → Volume S R → List ℕ → Volume S R → ℕ → Type 0
-HasFileAt phase rack old path new i =
+HasFileAt {R = R} phase rack old path new i =
     (origin : Origin R) (state : State) → StandsIn phase rack (WasHeld rack origin) old state → Known (WasHeld rack origin) rack new → (file_of (shape_of old).l (shape_of old).n path state.blocks).value ≡ Ok i
 
 -- The inode that is told after `cat`: the file's where it was given whole, and else the one that was told before. Where the receiver failed,

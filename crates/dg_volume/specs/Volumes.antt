@@ -137,7 +137,7 @@ pub record StandsIn {S R : Type 0} (phase : phases.Ghosts S) (rack : Ghosts R) (
 -- Whichever state the volume was in, it made a step from it, to a state that it is in now, in which so changed inodes were read last. That the
 -- volume stood for the state's blocks may rest on what its members held when it was opened: then the content of the step does.
 abbrev pub StepsBy : {S T R : Type 0} → phases.Ghosts S → phases.Ghosts T → Ghosts R → (List ℕ → List ℕ) → Volume S R → Event → Reply → Volume T R → Type 0
-StepsBy from to rack touch old event reply new = (origin : Origin R) (state : State) → StandsIn from rack (WasHeld rack origin) old state →
+StepsBy {R = R} from to rack touch old event reply new = (origin : Origin R) (state : State) → StandsIn from rack (WasHeld rack origin) old state →
     (next : State) × StandsIn to rack (WasHeld rack origin) new next × Step (Known (WasHeld rack origin) rack new) state event reply next × (next.recent ≡ touch state.recent)
 
 -- the same of a step that reads no file
@@ -146,7 +146,7 @@ StepsTo from to rack old event reply new = StepsBy from to rack (λ recent. rece
 
 -- The same, but said of states that have a block for each of the array's alone: what becomes of blocks then counts them.
 abbrev pub StepsSized : {S T R : Type 0} → phases.Ghosts S → phases.Ghosts T → Ghosts R → Volume S R → Event → Reply → Volume T R → Type 0
-StepsSized from to rack old event reply new = (origin : Origin R) (state : State) → StandsIn from rack (WasHeld rack origin) old state → length state.blocks ≡ (shape_of old).n →
+StepsSized {R = R} from to rack old event reply new = (origin : Origin R) (state : State) → StandsIn from rack (WasHeld rack origin) old state → length state.blocks ≡ (shape_of old).n →
     (next : State) × StandsIn to rack (WasHeld rack origin) new next × Step (Known (WasHeld rack origin) rack new) state event reply next × (next.recent ≡ state.recent)
 
 -- the inodes that were read last, once the file of this inode was given in a phase
@@ -174,9 +174,9 @@ pub record IsInPlace (table : Table) (kept : Option KeptInference) (homes copies
   pub by : IfSome kept (λ inference. AreWantsBy inference wants)
 
 -- What holds of a volume between calls: its array is sound; its buffers are for blocks of its size; it has a mark for each block; what is
--- inferred is of this array; the label that is kept fits the array; the array's boundaries are those in use, and no cut block has a site; homes are
--- on its boundaries, and no more than its blocks; only a settled one has copies; a worn one has a lost boundary; and of a settled one each block is
--- in its place.
+-- inferred is of this array; the label that is kept fits the array; the array's boundaries are those in use, and no cut block has a site; its members
+-- are as long by no more boundaries than its first line has; homes are on its boundaries, and no more than its blocks; only a settled one has copies;
+-- a worn one has a lost boundary; and of a settled one each block is in its place.
 pub record IsWell {S R : Type 0} (phase : phases.Ghosts S) (rack : Ghosts R) (volume : Volume S R) : Type 0 where
   pub array : IsSound rack volume.store
   pub levels : volume.levels.fragment ≡ (shape_of volume).l
@@ -184,6 +184,7 @@ pub record IsWell {S R : Type 0} (phase : phases.Ghosts S) (rack : Ghosts R) (vo
   pub inferred : IfSome (phase.kept volume.phase) (FitsArray (shape_of volume))
   pub labeled : HasLabel rack volume
   pub in_use : FitsReduced (table_of volume) (reduced_of volume)
+  pub long : volume.in_use.long ≤ volume.in_use.boundaries
   pub homes_are : AreHomes (shape_of volume) volume.homes
   pub few_homes : length volume.homes ≤ (shape_of volume).n
   pub copies_are : AreHomes (shape_of volume) volume.copies

@@ -4,6 +4,7 @@ ghost use Rattle.dg_label.specs.Labels.{HasOwnSeal};
 ghost use Rattle.dg_model.specs.Marks.{is_marked};
 ghost use Rattle.dg_model.specs.Members.{is_lost};
 ghost use Rattle.dg_model.specs.declared.events.Event.{Event};
+ghost use Rattle.dg_model.specs.declared.shapes.Shape.{Shape};
 ghost use Rattle.dg_rebuild.specs.Answers.{HasNoFilling};
 ghost use Rattle.dg_store.specs.Stores.{IsSound, members_of, table_of};
 ghost use Rattle.dg_store.specs.Stores as stores;

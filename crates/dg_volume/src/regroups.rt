@@ -21,6 +21,7 @@ use dg_io::{NoMemory, Rack, Reduces};
 use dg_label::{keep_left, labels_are_left, open_seal};
 use dg_map::Map;
 use dg_plan::Homes;
+use dg_promise::homes_left_ascend;
 use dg_regroup::{CutOver, cut_over};
 use dg_store::{Store, bits_leave_the_live};
 use std::alloc::Global;
@@ -168,6 +169,7 @@ impl<R: Reduces> Volume<AnyPhase, R> {
             return Ok(RegroupAnswer::TooFew);
         }
         labels_are_left::<R>();
+        homes_left_ascend();
         open_seal(&mut self.store, &mut self.label);
         let found = remains_of(alloc, &self.store, &self.homes, &self.copies, &self.in_use)?;
         let Some(remains) = found else {

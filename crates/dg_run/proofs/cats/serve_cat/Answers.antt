@@ -10,7 +10,7 @@ use Rattle.dg_model.specs.declared.shapes.Shape.{Shape}
 use Rattle.dg_run.proofs.Answers.{answered, answered_part, at_err}
 use Rattle.dg_run.proofs.ArraySteps.{steps_by, steps_of, volume_steps, weaker_steps}
 use Rattle.dg_run.proofs.FileParts.{file_part, part_lines, told_lines}
-use Rattle.dg_run.proofs.PathReplies.{cat_nothing, has_reply}
+use Rattle.dg_saved.specs.PathReplies.{cat_nothing, has_reply}
 use Rattle.dg_run.specs.Steps.{shape_of}
 use Rattle.dg_text.specs.HexLines.{InLines, TookBytes, TookBytesPart, last_line}
 use Rattle.dg_text.specs.Replies.{file_text, reply_line}

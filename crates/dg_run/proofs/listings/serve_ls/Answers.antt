@@ -6,7 +6,7 @@ use Rattle.dg_model.specs.declared.replies.Reply.TheVariants.{Listed, ListedCut}
 use Rattle.dg_run.proofs.Answers.{answered, answered_part, at_err}
 use Rattle.dg_run.proofs.ArraySteps.{steps_of, weaker_steps}
 use Rattle.dg_run.proofs.FileParts.{listing_part, part_end, part_lines, told_end, told_lines}
-use Rattle.dg_run.proofs.PathReplies.{has_reply, ls_nothing}
+use Rattle.dg_saved.specs.PathReplies.{has_reply, ls_nothing}
 use Rattle.dg_text.specs.HexLines.{last_line}
 use Rattle.dg_text.specs.ListingLines.{TookEntries, TookEntriesPart}
 use Rattle.dg_text.specs.Listings.{lines_in}

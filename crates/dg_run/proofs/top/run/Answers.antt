@@ -20,6 +20,9 @@ returns-in-Ok-clause-usage g c = λ is command words. c.serve_command.ensures.us
 pub returns-in-Ok-clause-other : goal.returns-in-Ok-clause-other
 returns-in-Ok-clause-other g c = λ none. absurd (none c.in-Ok.asked c.in-Ok.ensures.ok)
 
+pub returns-in-Ok-clause-plain : goal.returns-in-Ok-clause-plain
+returns-in-Ok-clause-plain g c = λ is none. absurd (none c.in-Ok.asked c.in-Ok.ensures.ok)
+
 pub returns-in-Ok-clause-quiet : goal.returns-in-Ok-clause-quiet
 returns-in-Ok-clause-quiet g c command words none =
     let same = asked_is _ c.command.result c.command.ensures.exact c.in-Ok.asked command c.in-Ok.is words in
@@ -61,6 +64,9 @@ returns-in-Err-Usage-clause-complete g c command words source sink = absurd (wor
 
 pub returns-in-Err-NoMemory-clause-ends : goal.returns-in-Err-NoMemory-clause-ends
 returns-in-Err-NoMemory-clause-ends g c command words = wanted_first _ (facts_of g.S.Source g.K.Sink g.R.Rack c.args.source.now c.args.source.now c.args.sink.now c.args.sink.now c.args.rack.now c.args.rack.now) command refl refl
+
+pub returns-in-Err-NoMemory-clause-plain : goal.returns-in-Err-NoMemory-clause-plain
+returns-in-Err-NoMemory-clause-plain g c = λ is none. c.command.ensures.memory (c.in-Err-NoMemory.is ∙ ap Err c.in-Err-NoMemory.field-0-is)
 
 pub returns-in-Err-NoMemory-clause-complete : goal.returns-in-Err-NoMemory-clause-complete
 returns-in-Err-NoMemory-clause-complete g c command words source sink =

@@ -7,7 +7,8 @@ use Rattle.dg_run.proofs.Answers.{answered, answered_part, at_err}
 use Rattle.dg_run.proofs.ArraySteps.{steps_of, weaker_steps}
 use Rattle.dg_run.proofs.FileParts.{part_end, part_lines, part_of_lines, told_end, told_lines}
 use Rattle.dg_run.proofs.NodeLines.{nodes_part, nodes_told, tree_wanted}
-use Rattle.dg_run.proofs.PathReplies.{has_reply, loose_tree, tree_nothing}
+use Rattle.dg_run.proofs.PathReplies.{loose_tree, tree_nothing}
+use Rattle.dg_saved.specs.PathReplies.{has_reply}
 use Rattle.dg_text.specs.HexLines.{last_line}
 use Rattle.dg_text.specs.ListingLines.{TookEntries, TookEntriesPart}
 use Rattle.dg_text.specs.Replies.{nodes_text, reply_line}

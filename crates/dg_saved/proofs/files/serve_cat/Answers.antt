@@ -1,7 +1,7 @@
 use Rattle.std.proofs.Common.{rules, subst}
 use Rattle.dg_io.specs.Told.{Told, Took, TookPart}
 use Rattle.dg_model.specs.declared.events.Event.TheVariants.{Cat}
-use Rattle.dg_saved.proofs.PathReplies.{cat_nothing, has_reply}
+use Rattle.dg_saved.specs.PathReplies.{cat_nothing, has_reply}
 use Rattle.dg_saved.proofs.Served.{file_cut, file_given, file_part, file_refused, file_refused_part, some_bytes}
 use Rattle.dg_text.specs.RawBytes.{TookRaw, TookRawPart}
 use Rattle.dg_text.specs.Replies.{reply_line}

@@ -1,7 +1,7 @@
 use Rattle.std.proofs.Common.{rules, subst}
 use Rattle.dg_io.specs.Told.{Told, Took, TookPart}
 use Rattle.dg_model.specs.declared.events.Event.TheVariants.{Ls}
-use Rattle.dg_saved.proofs.PathReplies.{has_reply, ls_nothing}
+use Rattle.dg_saved.specs.PathReplies.{has_reply, ls_nothing}
 use Rattle.dg_saved.proofs.Served.{listing_cut, listing_end_part, listing_given, listing_part, listing_refused, listing_refused_part}
 use Rattle.dg_saved.specs.Texts.{ls_text}
 use Rattle.dg_text.specs.ListingLines.{TookEntries, TookEntriesPart}

@@ -1,4 +1,4 @@
-use Rattle.std.proofs.Common.{◌≡◌, ◌∙◌, ◌++◌, ◌∷◌, [], ℕ, List, ap}
+use Rattle.std.proofs.Common.{◌∙◌, ◌++◌, ◌∷◌, [], ℕ, List, ap}
 use Rattle.dg_volume.proofs.PlaceLaws.{all_more}
 use Rattle.dg_volume.proofs.in_use.numbers_below.Goals as goal
 

@@ -1,4 +1,4 @@
-use Rattle.std.proofs.Common.{◌≡◌, ◌∙◌, ℕ, Bool, true, false, cond, sym, ap, arith}
+use Rattle.std.proofs.Common.{◌∙◌, ℕ, Bool, cond, sym, ap, arith}
 use Rattle.dg_model.specs.Members.{is_lost}
 use Rattle.dg_store.specs.Stores.{members_of}
 use Rattle.dg_volume.proofs.LeftLists.{count_more}

@@ -98,6 +98,7 @@ returns-in_err-phase-clause-on g c =
       label_is = refl;
       are_left = c.labels_are_left.ensures.labeled;
       stand_left = c.labels_are_left.ensures.stands;
+      ascend = c.homes_left_ascend.ensures;
     } in
     left_goes g.R.Rack _ _ a m c.in-Some.remains b f reduced (blank_fits g.R.Rack _ _ a m c.in-Some.remains b f reduced refl)
 
@@ -129,6 +130,7 @@ returns-in_err-phase-clause-err g c =
       label_is = refl;
       are_left = c.labels_are_left.ensures.labeled;
       stand_left = c.labels_are_left.ensures.stands;
+      ascend = c.homes_left_ascend.ensures;
     } in
     on_err _ _ (inr (left_kept g.R.Rack _ _ a m c.in-Some.remains b f reduced))
 
@@ -160,6 +162,7 @@ returns-clause-on g c =
       label_is = refl;
       are_left = c.labels_are_left.ensures.labeled;
       stand_left = c.labels_are_left.ensures.stands;
+      ascend = c.homes_left_ascend.ensures;
     } in
     left_goes g.R.Rack _ _ a m c.in-Some.remains b f reduced (phase_fits g.R.Rack _ _ a m c.in-Some.remains b f reduced
     (subst (λ (xs : List Bool). IsPhaseLeft g.R.Rack b.store f.store xs f.phase) c.deref.ensures.value c.in_ok-phase.ensures.phase))
@@ -192,6 +195,7 @@ returns-clause-answer g c =
       label_is = refl;
       are_left = c.labels_are_left.ensures.labeled;
       stand_left = c.labels_are_left.ensures.stands;
+      ascend = c.homes_left_ascend.ensures;
     } in
     subst (λ (answer : RegroupAnswer). AnswersRegroup g.R.Rack _ _ a f answer) (sym c.take_out-answer.ensures.answer)
     (regrouped g.R.Rack _ _ a m c.in-Some.remains b f reduced

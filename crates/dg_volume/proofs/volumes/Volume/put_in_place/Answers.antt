@@ -5,7 +5,7 @@ use Rattle.dg_model.specs.Tables.{Table}
 use Rattle.dg_model.specs.declared.homes.Home.{Home}
 use Rattle.dg_plan.specs.Targets.{wants_of}
 use Rattle.dg_store.specs.Answers.{SameWritten}
-use Rattle.dg_store.specs.Stores.{KeepsBlocks, TellsAll, members_of, table_of}
+use Rattle.dg_store.specs.Stores.{KeepsBlocks, TellsAll, members_of, shape_of, table_of}
 use Rattle.dg_volume.proofs.ArrayLaws.{moved_both, no_plan_before, on_err, plan_before, read_both, told_by, told_moved}
 use Rattle.dg_volume.proofs.MoveSteps.{check_refused, has_moved, has_read, keeps_of, labels_run, loose_not_settled, moved_leaves, settle_cramped, settle_lost_first, settle_lost_moving, settle_lost_reading, written_run}
 use Rattle.dg_volume.proofs.PlacedLaws.{few_missing}
@@ -164,6 +164,7 @@ returns-in-Tended-clause-leaves g c =
       levels = e.levels ∙ d.levels;
       array = moved;
       written = written_run g.S.InPhase g.R.Rack a mid last read t.written;
+      labeled = c.requires.well.labeled;
       labels = labels;
       homes_are = plan_homes g.S.InPhase g.R.Rack a mid last kept targets c.into_homes.result plan c.into_homes.ensures moved.stays.shape small;
       few_homes = plan_few g.S.InPhase g.R.Rack a mid last kept targets c.into_homes.result plan c.into_homes.ensures moved.stays.shape;
@@ -201,6 +202,7 @@ returns-in-Tended-clause-put g c done =
         levels = e.levels ∙ d.levels;
         array = moved;
         written = written_run g.S.InPhase g.R.Rack a mid last read t.written;
+        labeled = c.requires.well.labeled;
         labels = labels;
         homes_are = plan_homes g.S.InPhase g.R.Rack a mid last kept targets c.into_homes.result plan c.into_homes.ensures moved.stays.shape small;
         few_homes = plan_few g.S.InPhase g.R.Rack a mid last kept targets c.into_homes.result plan c.into_homes.ensures moved.stays.shape;

@@ -1,11 +1,12 @@
-use Rattle.std.proofs.Common.{◌≡◌, ℕ, Bool, List, inl, inr, refl, sym, subst, arith}
+use Rattle.std.proofs.Common.{◌<◌, ℕ, Bool, List, inl, inr, refl, sym, subst, arith}
 use Rattle.std.specs.Prelude.{IfSome}
 use Rattle.dg_volume.proofs.RebuildSteps.{CallsRebuild, opened_leaves, opened_spares, quiet_rack, rebuild_leaves, rebuild_spares, rebuild_steps, rebuilt_labels, steps_ended, steps_unused}
 use Rattle.dg_volume.specs.Phases.{CanReapAll}
 use Rattle.dg_volume.specs.Refills.{AreReapMarks}
 use Rattle.dg_volume.proofs.VolumeLaws.{leaves_none}
 use Rattle.dg_volume.proofs.volumes.Volume.rebuild.Goals as goal
-use Rattle.dg_volume.specs.Volumes.{line_of}
+use Rattle.dg_model.specs.declared.shapes.Shape.{Shape}
+use Rattle.dg_volume.specs.Volumes.{FitsArray, line_of}
 
 pub returns-clause-leaves : goal.returns-clause-leaves
 returns-clause-leaves g c =
@@ -145,7 +146,7 @@ returns-in-Some-ended-clause-spares g c =
 pub returns-in-Some-ended-clause-steps : goal.returns-in-Some-ended-clause-steps
 returns-in-Some-ended-clause-steps g c =
     let a = c.args.self.now in
-    let e = c.in-Some-ended.ensures in
+    let e = c.in-Some-ended.ensures (line_of a) in
     let o = c.open_refill-ended.ensures (line_of a) in
     rw c.rebuilt.ensures
     (steps_ended g.S.InPhase g.R.Rack a (record a { store = c.open_refill-ended.new.store; label = c.open_refill-ended.new.label }) c.in-Some.place c.args.limit c.in-Some-ended.answer
@@ -187,3 +188,20 @@ pub place-requires : goal.place-requires
 place-requires g c =
     let most = c.requires.well.array.table.shape.most_boundaries in
     omega (arith, c.requires.well.in_use.number, most)
+
+pub reap_marks-requires-clause-sound : goal.reap_marks-requires-clause-sound
+reap_marks-requires-clause-sound g c = let o = c.open_refill-ended.ensures (line_of c.args.self.now) in o.array.sound
+
+pub reap_marks-requires-clause-fits : goal.reap_marks-requires-clause-fits
+reap_marks-requires-clause-fits g c =
+    let a = c.args.self.now in
+    let o = c.open_refill-ended.ensures (line_of a) in
+    subst (λ (x : Shape). IfSome (g.S.InPhase.kept a.phase) (FitsArray x)) (sym o.array.stays.shape) c.requires.well.inferred
+
+pub rebuild-refilled-requires-clause-sound : goal.rebuild-refilled-requires-clause-sound
+rebuild-refilled-requires-clause-sound g c = let o = c.open_refill-ended.ensures (line_of c.args.self.now) in o.array.sound
+
+pub rebuild-refilled-requires-clause-boundary : goal.rebuild-refilled-requires-clause-boundary
+rebuild-refilled-requires-clause-boundary g c =
+    let o = c.open_refill-ended.ensures (line_of c.args.self.now) in
+    subst (λ (x : Shape). c.in-Some.place < x.b) (sym o.array.stays.shape) (omega (arith, c.in-Some.ensures.within, c.requires.well.in_use.number))

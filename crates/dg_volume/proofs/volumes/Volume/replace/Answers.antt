@@ -1,4 +1,4 @@
-use Rattle.std.proofs.Common.{◌≡◌, ◌∙◌, ◌+◌, ◌*◌, ℕ, refl, ap, subst, arith}
+use Rattle.std.proofs.Common.{◌∙◌, ◌+◌, ◌*◌, ℕ, refl, ap, subst, arith}
 use Rattle.dg_io.specs.Told.{IsZeros}
 use Rattle.dg_label.specs.LineLaws.{line_on}
 use Rattle.dg_model.specs.Saves.{member_length}

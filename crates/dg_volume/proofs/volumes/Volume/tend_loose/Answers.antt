@@ -1,6 +1,6 @@
 use Rattle.std.proofs.Common.{refl}
 use Rattle.dg_label.specs.LineLaws.{seal_on}
-use Rattle.dg_store.specs.Stores.{KeepsBlocks, TellsAll}
+use Rattle.dg_store.specs.Stores.{KeepsBlocks, TellsAll, shape_of}
 use Rattle.dg_volume.proofs.ArrayLaws.{moved_both, on_err, told_moved}
 use Rattle.dg_volume.proofs.MoveSteps.{has_moved, has_read, keeps_of, labels_run, moved_leaves, tend_cramped, tend_done, tend_lost_first, tend_lost_moving, tend_lost_reading, written_run}
 use Rattle.dg_volume.proofs.VolumeLaws.{leaves_none, reads_leave}

@@ -1,11 +1,12 @@
 use Rattle.std.proofs.Common.{◌≡◌, ◌∙◌, ◌<◌, false, inr, refl, sym, ap, subst, arith}
 use Rattle.std.specs.Prelude.{slice_set}
+use Rattle.std.proofs.lemmas.Bool.{false≢true}
 use Rattle.dg_model.specs.Marks.{with_mark}
 use Rattle.dg_model.specs.Sites.{IsSited}
 use Rattle.dg_model.specs.States.{has_lost}
 use Rattle.dg_model.specs.Tables.{Table}
 use Rattle.dg_model.specs.declared.shapes.Shape.{Shape}
-use Rattle.dg_volume.proofs.WriteSteps.{HasFollowed, HasStored, labels_followed, loosened_leaves, lost_before, lost_now, past_end, uncut_in_use, written_broken, written_to, written_whole}
+use Rattle.dg_volume.proofs.WriteSteps.{HasFollowed, HasStored, labels_followed, loosened_leaves, lost_before, lost_now, past_end, uncut_in_use, unwritten_leaves, written_broken, written_to, written_whole}
 use Rattle.dg_volume.specs.Volumes.{any_phase, line_of, members_of, shape_of, table_of}
 use Rattle.dg_volume.specs.declared.phases.AnyPhase.{AnyPhase}
 use Rattle.dg_volume.specs.declared.phases.AnyPhase.TheVariants.{Loose}
@@ -108,6 +109,23 @@ returns-then-whole-clause-leaves g c = let steps = returns-then-whole-clause-ste
 
 pub returns-clause-leaves : goal.returns-clause-leaves
 returns-clause-leaves g c = let steps = returns-clause-steps g c in steps.leaves
+
+pub returns-in-AllLost-clause-leaves : goal.returns-in-AllLost-clause-leaves
+returns-in-AllLost-clause-leaves g c = let steps = returns-in-AllLost-clause-steps g c in steps.leaves
+
+pub returns-in_default-clause-leaves : goal.returns-in_default-clause-leaves
+returns-in_default-clause-leaves g c =
+    let a = c.args.self.now in
+    let k = c.in_default.ensures in
+    let b : Volume AnyPhase g.row.R.Denot = record a {
+      store = c.write_opened.new.store;
+      label = c.write_opened.new.label;
+      phase = c.loosen.new.phase;
+      copies = c.new-in_default.result;
+    } in
+    let whole : has_lost (shape_of a) (members_of a) ≡ false = sym c.is_degraded.ensures ∙ c.if-is_degraded.false in
+    unwritten_leaves any_phase any_phase g.R.Rack a b c.requires.well k.falls k.err.written refl refl refl refl (c.new-in_default.ensures ∙ c.new.ensures.items) c.loosen.ensures.kept
+    (λ worn. false≢true (sym whole ∙ c.requires.well.worn (c.loosen.ensures.worn worn))) c.loosen.ensures.loose (k.label (line_of a))
 
 pub returns-in_default-followed-clause-leaves : goal.returns-in_default-followed-clause-leaves
 returns-in_default-followed-clause-leaves g c =

@@ -1,4 +1,4 @@
--- The reply at a path that gave nothing.
+-- The reply at a path that gave nothing. It stands here since the crate above cites it.
 use Rattle.std.proofs.Common.{◌≡◌, ℕ, List, refl, subst}
 use Rattle.std.specs.Prelude.{Some, false}
 use Rattle.dg_model.specs.declared.replies.Reply.{Reply}

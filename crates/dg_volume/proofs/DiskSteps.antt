@@ -1,0 +1,201 @@
+-- A volume makes a step by the loss and the mending of a single disk.
+use Rattle.std.proofs.Common.{◌≡◌, ◌∙◌, ◌<◌, ◌≤◌, ◌+◌, ◌*◌, ◌/◌, ℕ, Bool, true, false, List, length, inl, inr, refl, sym, ap, subst, arith}
+use Rattle.std.specs.Prelude.{IfSome, Option, Some}
+use Rattle.std.proofs.lemmas.Bool.{false≢true}
+use Rattle.dg_io.specs.declared.outside.Rack.{Ghosts}
+use Rattle.dg_label.specs.Labels.{StandsLabeled}
+use Rattle.dg_model.specs.Members.{IsStruck, is_lost}
+use Rattle.dg_model.specs.Saves.{AreHomes}
+use Rattle.dg_model.specs.Seals.{label_after}
+use Rattle.dg_model.specs.States.{Counts, CountsRise, State, has_lost}
+use Rattle.dg_model.specs.Steps.{Handles}
+use Rattle.dg_model.specs.Tables.{Table}
+use Rattle.dg_model.specs.declared.events.Event.TheVariants.{DropDisk, MendDisk}
+use Rattle.dg_model.specs.declared.members.MemberState.{MemberState}
+use Rattle.dg_model.specs.declared.members.MemberState.TheVariants.{Out}
+use Rattle.dg_model.specs.declared.replies.Reply.TheVariants.{Already, Done, Failed, Lost, Mended, NotOut}
+use Rattle.dg_model.specs.declared.shapes.Shape.{Shape}
+use Rattle.dg_store.specs.ReadLaws.{rack_none}
+use Rattle.dg_store.specs.Stores as stores
+use Rattle.dg_store.specs.declared.store.Store.{Store}
+use Rattle.dg_volume.proofs.DiskLaws.{fails_good, fails_or, fails_out, handles_none, relabels, shape_is, stands_still, writes_are}
+use Rattle.dg_volume.proofs.PlaceLaws.{lost_out}
+use Rattle.dg_volume.proofs.UseLaws.{HasPlace, fits_table, lost_in, lost_of, own_member}
+use Rattle.dg_volume.proofs.VolumeLaws.{Labels, labeled_by, line_same, lost_on, steps_from, under_by}
+use Rattle.dg_volume.specs.Disks.{HandlesDisk, LeavesDisks, place_of}
+use Rattle.dg_volume.specs.Regroups.{GoesOn}
+use Rattle.dg_volume.specs.Volumes.{FitsArray, IsInPlace, IsWell, Known, StandsFor, StandsIn, StandsUnder, StepsTo, line_of, members_of, rack_of, shape_of, state_of}
+use Rattle.dg_volume.specs.declared.phases.InPhase as phases
+use Rattle.dg_volume.specs.declared.volumes.Volume.{Volume}
+
+module _ {S R : Type 0} (phase : phases.Ghosts S) (rack : Ghosts R) where
+  -- ---- nothing is done
+
+  pub disks_none : (width : R → Option ℕ) (groups : R → ℕ) (s j : ℕ) (a : Volume S R) → IsWell phase rack a → LeavesDisks rack width groups s j a a
+  disks_none width groups s j a well = record { fails = false; array = handles_none rack width groups (place_of a s) j a.store well.array; idle = λ none. refl }
+
+  -- ---- a call on disk j of boundary t, which is at place s
+
+  module _ (width : R → Option ℕ) (groups : R → ℕ) (a : Volume S R) (store : Store R) (t s j : ℕ) (well : IsWell phase rack a) (place : HasPlace a t s) where
+    abbrev after : Volume S R
+    after = record a { store = store }
+
+    module _ (fails : Bool) (h : HandlesDisk rack width groups s j fails a.store store) where
+      shape : shape_of after ≡ shape_of a
+      shape = shape_is rack width groups s j fails a.store store h
+
+      line : line_of after ≡ line_of a
+      line = line_same a after refl shape
+
+      labels : (labels : Labels rack a after) × (labels.opens ≡ false)
+      labels = relabels rack width groups s j fails a.store store h (line_of a) a.label
+
+      after_well : IsWell phase rack after
+      after_well = record {
+        array = h.sound;
+        levels = well.levels ∙ sym (ap (λ (x : Shape). x.l) shape);
+        marks = well.marks ∙ sym (ap (λ (x : Shape). x.n) shape);
+        inferred = subst (λ (x : Shape). IfSome (phase.kept a.phase) (FitsArray x)) (sym shape) well.inferred;
+        labeled = labeled_by rack a after line labels.0 well.labeled;
+        in_use = fits_table a after refl h.table well.in_use;
+        long = well.long;
+        homes_are = subst (λ (x : Shape). AreHomes x a.homes) (sym shape) well.homes_are;
+        few_homes = subst (λ (x : Shape). length a.homes ≤ x.n) (sym shape) well.few_homes;
+        copies_are = subst (λ (x : Shape). AreHomes x a.copies) (sym shape) well.copies_are;
+        uncopied = well.uncopied;
+        worn = λ worn.
+            ap (λ (x : Shape). has_lost x (stores.members_of store)) shape
+            ∙ lost_on (shape_of a) (members_of a) (stores.members_of store) (fails_good fails s (members_of a) (stores.members_of store) h.members) (well.worn worn);
+        settled = λ settled. subst (λ (x : Table). IsInPlace x (phase.kept a.phase) a.homes a.copies) (sym h.table) (well.settled settled);
+      }
+
+      pub goes : GoesOn phase rack a after
+      goes =
+          let counts = h.leaves.counts_stay in
+          let calls : (rack.counts (stores.rack_of store)).calls ≡ (rack.counts (rack_of a)).calls = ap (λ (x : Counts). x.calls) counts in
+          let writes = writes_are rack width groups s j fails a.store store h in
+          record { well = after_well; boundaries = refl; line = line; calls = omega (arith, calls); writes = omega (arith, writes) }
+
+      pub disks_left : (n : ℕ) → Some n ≡ width (rack_of a) → LeavesDisks rack width groups t j a after
+      disks_left n is = record {
+        fails = fails;
+        array = subst (λ (k : ℕ). HandlesDisk rack width groups k j fails a.store store) (sym place.is) h;
+        idle = λ none. absurd (cc (is, none));
+      }
+
+      -- what is told in the end was told before
+      told_before : {P : Type 0} → Known P rack after → Known P rack a
+      told_before known = (λ q below. h.leaves.told_before q (known.0 q (subst (λ (x : Shape). q / 2 < x.b) (sym shape) below)), known.1)
+
+      holds_on : (V : List (List ℕ)) → StandsFor phase rack a V → StandsFor phase rack after V
+      holds_on V holds = record { array = h.blocks V holds.array; inferred = holds.inferred }
+
+      -- the state that it is in then, where the member may fail
+      abbrev handled : State → List (List ℕ) → State
+      handled rest V = state_of phase rack after (record rest { label = label_after false (members_of a) (stores.members_of store) rest.label }) V
+
+      handled_in : {P : Type 0} → (rest : State) (V : List (List ℕ)) → StandsUnder rack a rest.label → (Known P rack a → StandsFor phase rack a V)
+          → StandsIn phase rack P after (handled rest V)
+      handled_in rest V label holds = record {
+        is = refl;
+        label =
+            subst (λ (opens : Bool). StandsUnder rack after (label_after opens (members_of a) (stores.members_of store) rest.label)) labels.1
+            (under_by rack a after line labels.0 well.labeled rest.label label);
+        holds = λ told. holds_on V (holds (told_before told));
+      }
+
+      handles : (rest : State) (V : List (List ℕ)) → Handles (state_of phase rack a rest V) t (handled rest V)
+      handles rest V = record {
+        counts = subst (λ (x : Counts). CountsRise (rack.counts (rack_of a)) x) (sym h.leaves.counts_stay) (rack_none rack (rack_of a)).rise;
+        unwritten = writes_are rack width groups s j fails a.store store h;
+        members = elim (fails_or fails s (members_of a) (stores.members_of store) h.members) [
+          | inl same ↦ inl same
+          | inr struck ↦ inr (subst (λ (q : ℕ). IsStruck q (members_of a) (stores.members_of store)) first struck)
+        ];
+        paired = h.sound.paired;
+        rest = λ i. record (handled rest V) { table = h.table i };
+      }
+        where
+          first : 2 * s ≡ 2 * place_of a t + 0
+          first = let own = own_member a t s 0 place in omega (arith, own)
+
+    -- ---- the member stands as it stood
+
+    module _ (h : HandlesDisk rack width groups s j false a.store store) where
+      same_state : (rest : State) (V : List (List ℕ)) → state_of phase rack after rest V ≡ state_of phase rack a rest V
+      same_state rest V = λ i. record (state_of phase rack a rest V) { table = h.table i; members = h.members i; counts = h.leaves.counts_stay i }
+
+      still_in : {P : Type 0} → (rest : State) (V : List (List ℕ)) → StandsUnder rack a rest.label → (Known P rack a → StandsFor phase rack a V)
+          → StandsIn phase rack P after (state_of phase rack after rest V)
+      still_in rest V label holds = record {
+        is = refl;
+        label =
+            subst (λ (x : Shape). StandsLabeled rack x store a.label rest.label) (sym (line false h))
+            (stands_still rack width groups s j false a.store store h (line_of a) a.label rest.label label);
+        holds = λ told. holds_on false h V (holds (told_before false h told));
+      }
+
+      still_live : is_lost (members_of a) s ≡ false → is_lost (stores.members_of store) (place_of a t) ≡ true → ⊥
+      still_live live lost =
+          false≢true (sym live ∙ lost_of a (members_of a) t s place (ap (λ (m : ℕ → MemberState). is_lost m (place_of a t)) (sym h.members) ∙ lost))
+
+      pub steps_already : StepsTo phase phase rack a (DropDisk t j) Already after
+      steps_already = steps_from phase rack a after (DropDisk t j) Already (λ origin rest V label holds. (
+        state_of phase rack after rest V,
+        still_in rest V label holds,
+        same_state rest V,
+        refl,
+      ))
+
+      pub steps_not_out : is_lost (members_of a) s ≡ false → StepsTo phase phase rack a (MendDisk t j) NotOut after
+      steps_not_out live = steps_from phase rack a after (MendDisk t j) NotOut (λ origin rest V label holds. (
+        state_of phase rack after rest V,
+        still_in rest V label holds,
+        (λ lost. false≢true (sym live ∙ lost_of a (members_of a) t s place lost), same_state rest V),
+        refl,
+      ))
+
+      pub steps_failed : is_lost (members_of a) s ≡ false → StepsTo phase phase rack a (MendDisk t j) Failed after
+      steps_failed live = steps_from phase rack a after (MendDisk t j) Failed (λ origin rest V label holds. (
+        handled false h rest V,
+        handled_in false h rest V label holds,
+        (place.number, still_live live, handles false h rest V),
+        refl,
+      ))
+
+      pub steps_mended : (stripes : ℕ) → is_lost (members_of a) s ≡ false → StepsTo phase phase rack a (MendDisk t j) (Mended stripes) after
+      steps_mended stripes live = steps_from phase rack a after (MendDisk t j) (Mended stripes) (λ origin rest V label holds. (
+        handled false h rest V,
+        handled_in false h rest V label holds,
+        (place.number, still_live live, handles false h rest V),
+        refl,
+      ))
+
+    -- ---- the member may fail
+
+    pub steps_dropped : (fails : Bool) → HandlesDisk rack width groups s j fails a.store store → StepsTo phase phase rack a (DropDisk t j) Done after
+    steps_dropped fails h = steps_from phase rack a after (DropDisk t j) Done (λ origin rest V label holds. (
+      handled fails h rest V,
+      handled_in fails h rest V label holds,
+      (place.number, handles fails h rest V),
+      refl,
+    ))
+
+    pub steps_lost : HandlesDisk rack width groups s j true a.store store → is_lost (members_of a) s ≡ false → members_of a (2 * s + 1) ≡ Out
+        → StepsTo phase phase rack a (MendDisk t j) (Lost t) after
+    steps_lost h live second =
+        let gone = lost_out (stores.members_of store) s (h.members.out) (fails_out true s (members_of a) (stores.members_of store) h.members (2 * s + 1) second) in
+        steps_from phase rack a after (MendDisk t j) (Lost t) (λ origin rest V label holds. (
+          handled true h rest V,
+          handled_in true h rest V label holds,
+          (
+            place.number,
+            refl,
+            inr (
+              λ lost. false≢true (sym live ∙ lost_of a (members_of a) t s place lost),
+              lost_in a (stores.members_of store) t s place gone,
+              handles true h rest V,
+            ),
+          ),
+          refl,
+        ))

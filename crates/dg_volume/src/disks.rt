@@ -1,0 +1,188 @@
+// The disks of the rack of a volume.
+ghost use Rattle.std.specs.Prelude.{◌≡◌, ◌↔◌, ◌≤◌, ◌<◌, None, IfSome};
+ghost use Rattle.dg_io.specs.DiskAnswers.{DropsDisk, MendsDisk};
+ghost use Rattle.dg_model.specs.Members.{is_lost};
+ghost use Rattle.dg_model.specs.declared.events.Event.{Event};
+ghost use Rattle.dg_store.specs.Stores.{IsSound, KeepsBlocks, members_of, table_of};
+ghost use Rattle.dg_store.specs.Stores as stores;
+ghost use Rattle.dg_volume.specs.Disks.{AnswersDrop, AnswersMend, AreSingle, FailsWhere, HandlesDisk, LeavesDisks, drop_disk_reply, drop_loses, mend_disk_reply, mend_loses};
+ghost use Rattle.dg_volume.specs.Regroups.{GoesOn};
+ghost use Rattle.dg_volume.specs.Volumes.{IsWell, given_of, rack_of, shape_of, StepsTo};
+
+use crate::phases::InPhase;
+use crate::volumes::Volume;
+use dg_io::{Disks, DropAnswer, MendAnswer, Rack};
+use dg_store::Store;
+
+/// What became of the loss of a disk.
+#[derive(Clone, Copy, Debug, PartialEq, Eq)]
+pub enum DropDiskAnswer {
+    /// The rack is a plain one: it has no disks.
+    Plain,
+    /// There is no such disk.
+    Range,
+    /// The disk was out, or its boundary isn't in use.
+    Already,
+    /// It is out now.
+    Dropped,
+}
+
+/// What became of the mending of a disk.
+#[derive(Clone, Copy, Debug, PartialEq, Eq)]
+pub enum MendDiskAnswer {
+    /// The rack is a plain one: it has no disks.
+    Plain,
+    /// There is no such disk.
+    Range,
+    /// Its boundary is lost, or isn't in use.
+    Lost,
+    /// The disk wasn't out.
+    NotOut,
+    /// A call on the disk failed, and it stays out.
+    Failed,
+    /// The disk has its chunk of each of so many stripes.
+    Mended(u32),
+}
+
+/// Whether a boundary is lost.
+fn is_lost_at<R: Rack>(store: &Store<R>, place: u8) -> bool
+    requires sound { IsSound R.Rack store.now }
+    requires place { place < (stores.shape_of store.now).b }
+    ensures { result ≡ is_lost (members_of store.now) place }
+{
+    store.boundary(place).is_lost()
+}
+
+/// Whether two disks of the group are out, by the answer to the drop of one.
+fn is_lost_by_drop(answer: DropAnswer) -> bool
+    ensures { result ≡ drop_loses answer }
+{
+    match answer {
+        DropAnswer::Dropped(lost) => lost,
+        DropAnswer::Plain => false,
+        DropAnswer::Already => false,
+    }
+}
+
+/// The same by the answer to the mending of one.
+fn is_lost_by_mend(answer: MendAnswer) -> bool
+    ensures { result ≡ mend_loses answer }
+{
+    matches!(answer, MendAnswer::Lost)
+}
+
+/// Makes the first member of a boundary fail where two disks of its group are out.
+fn fail_where<R: Rack>(store: &mut Store<R>, place: u8, lost: bool)
+    requires sound { IsSound R.Rack store.old }
+    requires place { place < (stores.shape_of store.old).b }
+    ensures sound { IsSound R.Rack store.new }
+    ensures rack { stores.rack_of store.new ≡ stores.rack_of store.old }
+    ensures table { table_of store.new ≡ table_of store.old }
+    ensures members { FailsWhere lost place (members_of store.old) (members_of store.new) }
+    ensures blocks { KeepsBlocks R.Rack store.old store.new }
+{
+    if lost {
+        store.fail(place, 0);
+    }
+}
+
+/// A disk of the boundary at a place goes out. Where two of its disks are out then, its member fails.
+fn drop_at<R: Disks>(store: &mut Store<R>, place: u8, disk: u8) -> DropAnswer
+    requires sound { IsSound R.Rack store.old }
+    requires place { place < (stores.shape_of store.old).b }
+    requires group { IfSome (R.width (stores.rack_of store.old)) (λ n. (place < R.groups (stores.rack_of store.old)) × (disk < n)) }
+    ensures plain { (result ≡ DropAnswer.Plain) ↔ (R.width (stores.rack_of store.old) ≡ None) }
+    ensures answer { IfSome (R.width (stores.rack_of store.old))
+        (λ n. DropsDisk n place disk (R.disks (stores.rack_of store.old)) (R.disks (stores.rack_of store.new)) result) }
+    ensures handles { HandlesDisk R.Rack R.width R.groups place disk (drop_loses result) store.old store.new }
+{
+    let answer = store.drop_disk(place, disk);
+    fail_where(store, place, is_lost_by_drop(answer));
+    answer
+}
+
+/// A disk of the boundary at a place comes back, or else its member fails where two of its disks are out.
+fn mend_at<R: Disks>(store: &mut Store<R>, place: u8, disk: u8) -> MendAnswer
+    requires sound { IsSound R.Rack store.old }
+    requires place { place < (stores.shape_of store.old).b }
+    requires group { IfSome (R.width (stores.rack_of store.old)) (λ n. (place < R.groups (stores.rack_of store.old)) × (disk < n)) }
+    ensures plain { (result ≡ MendAnswer.Plain) ↔ (R.width (stores.rack_of store.old) ≡ None) }
+    ensures answer { IfSome (R.width (stores.rack_of store.old))
+        (λ n. MendsDisk n place disk (R.disks (stores.rack_of store.old)) (R.disks (stores.rack_of store.new)) result) }
+    ensures handles { HandlesDisk R.Rack R.width R.groups place disk (mend_loses result) store.old store.new }
+{
+    let answer = store.mend(place, disk);
+    fail_where(store, place, is_lost_by_mend(answer));
+    answer
+}
+
+impl<S: InPhase, R: Disks> Volume<S, R> {
+    /// How many disks a group of the rack has, or `None` of a plain rack.
+    pub fn disks(&self) -> Option<u8>
+        ensures { result ≡ R.width (rack_of self.now) }
+    {
+        self.store.disks()
+    }
+
+    /// A disk goes out, given by its boundary's number in the first line. Where two disks of the boundary are out then, its first member
+    /// fails.
+    pub fn drop_disk(&mut self, boundary: u32, disk: u32) -> DropDiskAnswer
+        requires well { IsWell S.InPhase R.Rack self.old }
+        requires groups { IfSome (R.width (rack_of self.old)) (λ n. (shape_of self.old).b ≤ R.groups (rack_of self.old)) }
+        ensures steps { StepsTo S.InPhase S.InPhase R.Rack self.old (Event.DropDisk boundary disk) (drop_disk_reply result) self.new }
+        ensures on { GoesOn S.InPhase R.Rack self.old self.new }
+        ensures leaves { LeavesDisks R.Rack R.width R.groups boundary disk self.old self.new }
+        ensures plain { (result ≡ DropDiskAnswer.Plain) ↔ (R.width (rack_of self.old) ≡ None) }
+        ensures answer { IfSome (R.width (rack_of self.old)) (λ n. AnswersDrop R.Rack n boundary disk self.old self.new result) }
+        ensures given { given_of self.new ≡ given_of self.old }
+    {
+        let Some(width) = self.store.disks() else {
+            return DropDiskAnswer::Plain;
+        };
+        if boundary >= self.in_use.boundaries as u32 || disk >= width as u32 {
+            return DropDiskAnswer::Range;
+        }
+        let Some(place) = self.in_use.place(boundary) else {
+            return DropDiskAnswer::Already;
+        };
+        match drop_at(&mut self.store, place, disk as u8) {
+            DropAnswer::Plain => DropDiskAnswer::Plain,
+            DropAnswer::Already => DropDiskAnswer::Already,
+            DropAnswer::Dropped(_) => DropDiskAnswer::Dropped,
+        }
+    }
+
+    /// A disk comes back, given by its boundary's number in the first line, and is filled from the boundary's other disks. Where two of them
+    /// are out, the boundary's first member fails, and the boundary is lost.
+    pub fn mend(&mut self, boundary: u32, disk: u32) -> MendDiskAnswer
+        requires well { IsWell S.InPhase R.Rack self.old }
+        requires groups { IfSome (R.width (rack_of self.old)) (λ n. (shape_of self.old).b ≤ R.groups (rack_of self.old)) }
+        requires single { IfSome (R.width (rack_of self.old)) (λ n. AreSingle self.old) }
+        ensures steps { StepsTo S.InPhase S.InPhase R.Rack self.old (Event.MendDisk boundary disk) (mend_disk_reply boundary result) self.new }
+        ensures on { GoesOn S.InPhase R.Rack self.old self.new }
+        ensures leaves { LeavesDisks R.Rack R.width R.groups boundary disk self.old self.new }
+        ensures plain { (result ≡ MendDiskAnswer.Plain) ↔ (R.width (rack_of self.old) ≡ None) }
+        ensures answer { IfSome (R.width (rack_of self.old)) (λ n. AnswersMend R.Rack n boundary disk self.old self.new result) }
+        ensures given { given_of self.new ≡ given_of self.old }
+    {
+        let Some(width) = self.store.disks() else {
+            return MendDiskAnswer::Plain;
+        };
+        if boundary >= self.in_use.boundaries as u32 || disk >= width as u32 {
+            return MendDiskAnswer::Range;
+        }
+        let Some(place) = self.in_use.place(boundary) else {
+            return MendDiskAnswer::Lost;
+        };
+        if is_lost_at(&self.store, place) {
+            return MendDiskAnswer::Lost;
+        }
+        match mend_at(&mut self.store, place, disk as u8) {
+            MendAnswer::Plain => MendDiskAnswer::Plain,
+            MendAnswer::Lost => MendDiskAnswer::Lost,
+            MendAnswer::NotOut => MendDiskAnswer::NotOut,
+            MendAnswer::Failed => MendDiskAnswer::Failed,
+            MendAnswer::Mended(stripes) => MendDiskAnswer::Mended(stripes),
+        }
+    }
+}
