@@ -1,10 +1,7 @@
-use Rattle.std.proofs.Common.{refl, subst}
-use Rattle.std.specs.Prelude.{IfSome, Option}
-use Rattle.dg_infer.specs.Meanings.{KeptInference}
-use Rattle.dg_volume.proofs.LostSteps.{HasMarked, lost_runs, lost_wanting}
+use Rattle.std.proofs.Common.{refl}
+use Rattle.dg_volume.proofs.LostSteps.{has_marked, lost_runs, lost_wanting}
 use Rattle.dg_volume.proofs.MoveSteps.{has_read}
 use Rattle.dg_volume.proofs.VolumeLaws.{leaves_none, reads_leave}
-use Rattle.dg_volume.specs.Volumes.{FitsArray, shape_of}
 use Rattle.dg_volume.proofs.volumes.Volume.list_lost.Goals as goal
 
 pub returns-in_err-marks-clause-leaves : goal.returns-in_err-marks-clause-leaves
@@ -14,14 +11,8 @@ pub returns-clause-steps : goal.returns-clause-steps
 returns-clause-steps g c =
     let a = c.args.self.now in
     let b = record a { store = c.cut_marked.new.store; levels = c.cut_marked.new.levels } in
-    let kept = c.in-Some.inference.now in
-    let m : HasMarked g.S.InPhase a c.in_ok-marks.marks.items = record {
-      settled = c.requires.settled;
-      kept = kept;
-      kept_is = c.in-Some.ensures.kept;
-      fits = subst (λ (o : Option KeptInference). IfSome o (FitsArray (shape_of a))) c.in-Some.ensures.kept c.requires.well.inferred;
-      right = c.in_ok-marks.ensures;
-    } in
+    let m = has_marked g.S.InPhase a c.in-Some.inference.now c.deref.result.now c.in_ok-marks.marks.items c.requires.settled c.in-Some.ensures.kept c.requires.well.inferred
+    c.deref.ensures.value c.in_ok-marks.ensures in
     lost_runs g.S.InPhase g.R.Rack a b c.in_ok-marks.marks.items m
     (has_read g.S.InPhase g.R.Rack a b c.requires.well (record { phase_is = refl; pending = refl; homes = refl; copies = refl; in_use = refl }) c.cut_marked.ensures.levels refl c.cut_marked.ensures.reads)
     {C = g.row.O.Denot} g.O.PathList.took g.O.PathList.took_part g.O.PathList.faults c.args.out.now c.cut_marked.new.out c.cut_marked.result c.cut_marked.ensures.cause c.cut_marked.ensures.rule
@@ -30,14 +21,8 @@ pub returns-clause-part : goal.returns-clause-part
 returns-clause-part g c =
     let a = c.args.self.now in
     let b = record a { store = c.cut_marked.new.store; levels = c.cut_marked.new.levels } in
-    let kept = c.in-Some.inference.now in
-    let m : HasMarked g.S.InPhase a c.in_ok-marks.marks.items = record {
-      settled = c.requires.settled;
-      kept = kept;
-      kept_is = c.in-Some.ensures.kept;
-      fits = subst (λ (o : Option KeptInference). IfSome o (FitsArray (shape_of a))) c.in-Some.ensures.kept c.requires.well.inferred;
-      right = c.in_ok-marks.ensures;
-    } in
+    let m = has_marked g.S.InPhase a c.in-Some.inference.now c.deref.result.now c.in_ok-marks.marks.items c.requires.settled c.in-Some.ensures.kept c.requires.well.inferred
+    c.deref.ensures.value c.in_ok-marks.ensures in
     lost_wanting g.S.InPhase g.R.Rack a b c.in_ok-marks.marks.items m
     (has_read g.S.InPhase g.R.Rack a b c.requires.well (record { phase_is = refl; pending = refl; homes = refl; copies = refl; in_use = refl }) c.cut_marked.ensures.levels refl c.cut_marked.ensures.reads)
     {C = g.row.O.Denot} g.O.PathList.took c.args.out.now c.cut_marked.new.out c.cut_marked.result c.cut_marked.ensures.part
