@@ -35,15 +35,15 @@ pub record HasMarked {S R : Type 0} (phase : phases.Ghosts S) (volume : Volume S
   pub fits : FitsArray (shape_of volume) kept
   pub right : AreLostMarks kept (cut_of volume) marks
 
-pub has_marked : {S R : Type 0} (phase : phases.Ghosts S) (volume : Volume S R) (kept : KeptInference) (cut marks : List Bool) → phase.phase volume.phase ≡ SettledPhase
-    → phase.kept volume.phase ≡ Some kept → IfSome (phase.kept volume.phase) (FitsArray (shape_of volume)) → cut ≡ cut_of volume → AreLostMarks kept cut marks
+pub has_marked : {S R : Type 0} (phase : phases.Ghosts S) (volume : Volume S R) (kept : KeptInference) (cut found marks : List Bool) → phase.phase volume.phase ≡ SettledPhase
+    → phase.kept volume.phase ≡ Some kept → IfSome (phase.kept volume.phase) (FitsArray (shape_of volume)) → cut ≡ cut_of volume → marks ≡ found → AreLostMarks kept cut found
     → HasMarked phase volume marks
-has_marked phase volume kept cut marks settled kept_is fits cut_is right = record {
+has_marked phase volume kept cut found marks settled kept_is fits cut_is marks_are right = record {
   settled = settled;
   kept = kept;
   kept_is = kept_is;
   fits = subst (λ (o : Option KeptInference). IfSome o (FitsArray (shape_of volume))) kept_is fits;
-  right = subst (λ (l : List Bool). AreLostMarks kept l marks) cut_is right;
+  right = subst (λ (l : List Bool). AreLostMarks kept l marks) cut_is (subst (λ (l : List Bool). AreLostMarks kept cut l) (sym marks_are) right);
 }
 
 module _ {S R : Type 0} (phase : phases.Ghosts S) (rack : Ghosts R) (a b : Volume S R) (marks : List Bool) (m : HasMarked phase a marks) (h : HasRead phase rack a b) where

@@ -11,9 +11,9 @@ pub returns-clause-steps : goal.returns-clause-steps
 returns-clause-steps g c =
     let a = c.args.self.now in
     let b = record a { store = c.cut_marked.new.store; levels = c.cut_marked.new.levels } in
-    let m = has_marked g.S.InPhase a c.in-Some.inference.now c.deref.result.now c.in_ok-marks.marks.items c.requires.settled c.in-Some.ensures.kept c.requires.well.inferred
-    c.deref.ensures.value c.in_ok-marks.ensures in
-    lost_runs g.S.InPhase g.R.Rack a b c.in_ok-marks.marks.items m
+    let m = has_marked g.S.InPhase a c.in-Some.inference.now c.deref.result.now c.in_ok-marks.marks.items c.deref-2.result.now c.requires.settled
+    c.in-Some.ensures.kept c.requires.well.inferred c.deref.ensures.value c.deref-2.ensures.value c.in_ok-marks.ensures in
+    lost_runs g.S.InPhase g.R.Rack a b c.deref-2.result.now m
     (has_read g.S.InPhase g.R.Rack a b c.requires.well (record { phase_is = refl; pending = refl; homes = refl; copies = refl; in_use = refl }) c.cut_marked.ensures.levels refl c.cut_marked.ensures.reads)
     {C = g.row.O.Denot} g.O.PathList.took g.O.PathList.took_part g.O.PathList.faults c.args.out.now c.cut_marked.new.out c.cut_marked.result c.cut_marked.ensures.cause c.cut_marked.ensures.rule
 
@@ -21,9 +21,9 @@ pub returns-clause-part : goal.returns-clause-part
 returns-clause-part g c =
     let a = c.args.self.now in
     let b = record a { store = c.cut_marked.new.store; levels = c.cut_marked.new.levels } in
-    let m = has_marked g.S.InPhase a c.in-Some.inference.now c.deref.result.now c.in_ok-marks.marks.items c.requires.settled c.in-Some.ensures.kept c.requires.well.inferred
-    c.deref.ensures.value c.in_ok-marks.ensures in
-    lost_wanting g.S.InPhase g.R.Rack a b c.in_ok-marks.marks.items m
+    let m = has_marked g.S.InPhase a c.in-Some.inference.now c.deref.result.now c.in_ok-marks.marks.items c.deref-2.result.now c.requires.settled
+    c.in-Some.ensures.kept c.requires.well.inferred c.deref.ensures.value c.deref-2.ensures.value c.in_ok-marks.ensures in
+    lost_wanting g.S.InPhase g.R.Rack a b c.deref-2.result.now m
     (has_read g.S.InPhase g.R.Rack a b c.requires.well (record { phase_is = refl; pending = refl; homes = refl; copies = refl; in_use = refl }) c.cut_marked.ensures.levels refl c.cut_marked.ensures.reads)
     {C = g.row.O.Denot} g.O.PathList.took c.args.out.now c.cut_marked.new.out c.cut_marked.result c.cut_marked.ensures.part
 
