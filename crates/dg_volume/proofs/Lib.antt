@@ -20,6 +20,8 @@ mod LeftLaws
 mod LeftLists
 mod ListedLaws
 mod LooseLaws
+mod LostLaws
+mod LostSteps
 mod MoveSteps
 mod OpenLaws
 mod OpenSteps

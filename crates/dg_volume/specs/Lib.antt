@@ -7,6 +7,7 @@ pub mod Faults
 pub mod Fronts
 pub mod HeldLaws
 pub mod Left
+pub mod LostFiles
 pub mod Numbers
 pub mod Opens
 pub mod Origins
