@@ -1,15 +1,18 @@
--- The calls of a stripe by its chunks, where no disk is out.
-use Rattle.std.proofs.Common.{◌≡◌, ℕ, zero, suc, ◌+◌, ◌-◌, ◌*◌, ◌<◌, ◌≤◌, inl, inr, Bool, true, false, cond, refl, sym, ap, ◌∙◌, arith}
+-- The calls of a stripe by its chunks, where no disk is out, and of one that is written whole.
+use Rattle.std.proofs.Common.{◌≡◌, ℕ, zero, suc, ◌+◌, ◌-◌, ◌*◌, ◌/◌, ◌%◌, ◌<◌, ◌≤◌, inl, inr, Bool, true, false, cond, refl, sym, ap, ◌∙◌, arith}
 use Rattle.std.specs.Prelude.{◌&&◌, ◌||◌, ◌==◌, min, nat_lt, not, if◌then◌else◌}
-use Rattle.std.proofs.lemmas.Bool.{cases_eq}
+use Rattle.std.proofs.Math.Nat.{add-mul, mul-le-mul_right, one-mul}
+use Rattle.std.proofs.lemmas.Bool.{cases_Bool, cases_eq}
 use Rattle.std.proofs.lemmas.Bool.Decides.{nat_tests}
-use Rattle.std.proofs.lemmas.Nat.{mod_below}
+use Rattle.std.proofs.lemmas.Nat.{div-add-mod', mod_below}
 use Rattle.dg_model.specs.Moves.{count_upto, sum_upto}
-use Rattle.dg_model.proofs.SumLaws.{sum_same}
-use Rattle.dg_parity.specs.Runs.{among, chunk_on}
-use Rattle.dg_parity.specs.Stripes.{parity_of}
-use Rattle.dg_parity.specs.Updates.{has_all, has_part, is_changed, is_left, is_read, least_reads, parts_in, reads_by, reads_on, wholes_in, writes_in, writes_on}
-use Rattle.dg_parity.proofs.UpdateLemmas.{get-in}
+use Rattle.dg_model.proofs.SumLaws.{sum_same, sum_zero}
+use Rattle.dg_parity.specs.Runs.{among, chunk_on, IsWhole}
+use Rattle.dg_parity.specs.Stripes.{parity_of, stripe_of}
+use Rattle.dg_parity.specs.Updates.{has_all, has_part, is_changed, is_left, is_read, least_reads, parts_in, reads_by, reads_for, reads_on, reads_to_get, stripes_in, wholes_in, writes_in, writes_on}
+use Rattle.dg_parity.proofs.RowLemmas.{whole-covers}
+use Rattle.dg_parity.proofs.RunLemmas.{stripe-up}
+use Rattle.dg_parity.proofs.UpdateLemmas.{get-in, stripes-some}
 
 -- ---- a sum over all disks is what the disk with the parity has, and that of the chunks of the others
 
@@ -110,3 +113,72 @@ module _ (n : ℕ) (out : ℕ → Bool) (at size t : ℕ) (least : 3 ≤ n) (in0
   pub writes-chunks : writes_in n out at size t ≡ parts_in n at size t + 1
   writes-chunks =
       sum_same (writes_on n out at size t) (λ j. one (is_changed n at size t j)) n (λ j lt. and-in (is_changed n at size t j) (out j) (in0 j lt)) ∙ changed-all
+
+-- ---- stripes that are written whole
+
+left-none : (n at size t j : ℕ) → 3 ≤ n → j < n → IsWhole n t at size → is_left n at size t j ≡ false
+left-none n at size t j least lt whole = elim (cases_eq j (parity_of n t)) [
+  | inl e ↦ let yes : (j == parity_of n t) ≡ true = grind (arith, nat_tests, e) in ap (λ (b : Bool). not (b || has_all at size (chunk_on n t j))) yes
+  | inr ne ↦
+      let all = whole-covers n t j at size least lt ne whole in
+      let low : at ≤ 512 * chunk_on n t j = omega (arith, all.0) in
+      let high : 512 * chunk_on n t j + 512 ≤ at + size = omega (arith, all.1) in
+      let yes : has_all at size (chunk_on n t j) ≡ true = grind (arith, nat_tests, low, high) in
+      let no : (j == parity_of n t) ≡ false = grind (arith, nat_tests, ne) in
+      ap (λ (b : Bool). not (j == parity_of n t || b)) yes ∙ ap (λ (b : Bool). not (b || true)) no
+]
+
+pub reads-whole : (n : ℕ) (out : ℕ → Bool) (at size t : ℕ) → 3 ≤ n → IsWhole n t at size → least_reads n out at size t ≡ 0
+reads-whole n out at size t least whole =
+    let none : reads_by n out at size t false ≡ 0 =
+    sum_zero (reads_on n out at size t false) n (λ j lt. ap (λ (b : Bool). if b then reads_to_get n out j else 0) (left-none n at size t j least lt whole)) in
+    elim (cases_Bool (out (parity_of n t))) [
+      | inl gone ↦ ap (λ (b : Bool). if b then 0 else min (reads_by n out at size t true) (reads_by n out at size t false)) gone
+      | inr in0 ↦
+          ap (λ (b : Bool). if b then 0 else min (reads_by n out at size t true) (reads_by n out at size t false)) in0
+          ∙ omega (arith, none)
+    ]
+
+-- a stripe between those of the first and the last byte
+inner-whole : (n at size t : ℕ) → 3 ≤ n → 0 < size → stripe_of n (at / 512) < t → t < stripe_of n ((at + (size - 1)) / 512) → IsWhole n t at size
+inner-whole n at size t least some above below =
+    let s = n - 1 in
+    let c = at / 512 in
+    let d = (at + (size - 1)) / 512 in
+    let first : c / s * s + c % s ≡ c = div-add-mod' c s in
+    let inside : c % s < s = mod_below c s (omega arith) in
+    let last : d / s * s + d % s ≡ d = div-add-mod' d s in
+    let low : (c / s + 1) * s ≤ t * s = mul-le-mul_right {m = c / s + 1} {n = t} s (omega (arith, above)) in
+    let high : (t + 1) * s ≤ d / s * s = mul-le-mul_right {m = t + 1} {n = d / s} s (omega (arith, below)) in
+    record {
+      low = omega (arith, first, inside, low, add-mul (c / s) 1 s, one-mul s);
+      high = omega (arith, last, high, some);
+    }
+
+sum-first : (f : ℕ → ℕ) (m : ℕ) → ((q : ℕ) → 0 < q → q < m → f q ≡ 0) → sum_upto m f ≤ f 0
+sum-first f zero none = omega arith
+sum-first f (suc m) none = elim (cases_eq m 0) [
+  | inl e ↦ omega (arith, ap (λ (k : ℕ). sum_upto k f) e, ap f e)
+  | inr ne ↦ omega (arith, sum-first f m (λ q some lt. none q some (omega arith)), none m (omega (arith, ne)) (omega arith))
+]
+
+sum-ends : (f : ℕ → ℕ) (m : ℕ) → ((q : ℕ) → 0 < q → q + 1 < m → f q ≡ 0) → sum_upto m f ≤ f 0 + f (m - 1)
+sum-ends f zero none = omega arith
+sum-ends f (suc m) none =
+    let last : f (suc m - 1) ≡ f m = ap f (omega arith) in
+    omega (arith, sum-first f m (λ q some lt. none q some (omega arith)), last)
+
+pub reads-ends : (n : ℕ) (out : ℕ → Bool) (place count : ℕ) → 3 ≤ n → 0 < count → reads_for n out place count
+    ≤ least_reads n out place count (stripe_of n (place / 512)) + least_reads n out place count (stripe_of n ((place + (count - 1)) / 512))
+reads-ends n out place count least some =
+    let first = stripe_of n (place / 512) in
+    let last = stripe_of n ((place + (count - 1)) / 512) in
+    let m = stripes_in n place count in
+    let f = λ (q : ℕ). least_reads n out place count (first + q) in
+    let size : m ≡ last - first + 1 = stripes-some n place count some in
+    let up : first ≤ last = stripe-up n place (place + (count - 1)) least (omega arith) in
+    let both : sum_upto m f ≤ f 0 + f (m - 1) =
+    sum-ends f m (λ q low high. reads-whole n out place count (first + q) least (inner-whole n place count (first + q) least some (omega (arith, low)) (omega (arith, high, size)))) in
+    let start : f 0 ≡ least_reads n out place count first = ap (least_reads n out place count) (omega arith) in
+    let end : f (m - 1) ≡ least_reads n out place count last = ap (least_reads n out place count) (omega (arith, size, up)) in
+    omega (arith, both, start, end)

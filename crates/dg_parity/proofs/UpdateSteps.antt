@@ -2,7 +2,7 @@
 use Rattle.std.proofs.Common.{◌≡◌, ◌≢◌, ℕ, zero, suc, ◌+◌, ◌-◌, ◌*◌, ◌/◌, ◌%◌, ◌<◌, ◌≤◌, ◌⊎◌, inl, inr, Bool, true, false, refl, sym, ap, subst, ◌∙◌, arith, add-zero}
 use Rattle.std.specs.Prelude.{◌&&◌, ◌||◌, ◌==◌, min, nat_le, nat_lt, not, if◌then◌else◌}
 use Rattle.std.proofs.Math.Nat.{add-mul, mul-le-mul_left, mul-le-mul_right, mul-one, one-mul}
-use Rattle.std.proofs.lemmas.Bool.{and_parts, cases_eq, cases_lt, false≢true}
+use Rattle.std.proofs.lemmas.Bool.{and_parts, cases_Bool, cases_eq, cases_lt, false≢true}
 use Rattle.std.proofs.lemmas.Bool.Decides.{nat_tests}
 use Rattle.std.proofs.lemmas.Nat.{div-add-mod', mod_below}
 use Rattle.dg_io.specs.declared.outside.Rack.{Ghosts}
@@ -11,7 +11,7 @@ use Rattle.dg_model.proofs.SumLaws.{sum_more, sum_same}
 use Rattle.dg_parity.specs.Groups.{is_out, FellOne, IsLater, MostCalls}
 use Rattle.dg_parity.specs.Runs.{among, begins, chunk_on, passes_in, IsWindow}
 use Rattle.dg_parity.specs.Stripes.{parity_of, stripe_of}
-use Rattle.dg_parity.specs.Updates.{has_all, has_part, is_changed, is_left, is_read, least_reads, reads_by, reads_for, reads_on, reads_to_get, stripes_in, writes_for, writes_in, writes_on, CallsLeast, StaysLeast, StaysWithin}
+use Rattle.dg_parity.specs.Updates.{has_all, has_part, is_changed, is_left, is_read, least_reads, reads_by, reads_for, reads_on, reads_to_get, stripes_in, writes_for, writes_in, writes_on, CallsLeast, CallsWithHeaders, StaysLeast, StaysWithin}
 use Rattle.dg_parity.specs.declared.groups.Group.{Group}
 use Rattle.dg_parity.specs.declared.windows.Window.{Window}
 use Rattle.dg_parity.proofs.CountLemmas.{mul-next}
@@ -304,3 +304,48 @@ pub least-still : {S : Type 0} (rack : Ghosts S) (n : ℕ) (out : ℕ → Bool) 
     → ((j : ℕ) → is_out a j ≡ false → is_out c j ≡ false) → StaysLeast rack n out place count a b s u → CallsLeast rack n out place count s u
 least-still rack n out place count a b c s u later none (inl still) = still.1
 least-still rack n out place count a b c s u later none (inr fell) = absurd (false≢true (sym (none fell.disk fell.before) ∙ later.grows fell.disk fell.now))
+
+-- ---- headers, and then the write
+
+module _ (n : ℕ) (p q : ℕ → Bool) (same : (j : ℕ) → p j ≡ q j) (place count : ℕ) where
+  by-alike : (t : ℕ) (by : Bool) → reads_by n p place count t by ≡ reads_by n q place count t by
+  by-alike t by =
+      sum_same (reads_on n p place count t by) (reads_on n q place count t by) n
+      (λ j lt. ap (λ (b : Bool). if is_read n place count t by j then (if b then n - 1 else 1) else 0) (same j))
+
+  least-alike : (t : ℕ) → least_reads n p place count t ≡ least_reads n q place count t
+  least-alike t =
+      ap (λ (b : Bool). if b then 0 else min (reads_by n p place count t true) (reads_by n p place count t false)) (same (parity_of n t))
+      ∙ ap (λ (x : ℕ). if q (parity_of n t) then 0 else min x (reads_by n p place count t false)) (by-alike t true)
+      ∙ ap (λ (x : ℕ). if q (parity_of n t) then 0 else min (reads_by n q place count t true) x) (by-alike t false)
+
+  reads-alike : reads_for n p place count ≡ reads_for n q place count
+  reads-alike =
+      sum_same (λ i. least_reads n p place count (stripe_of n (place / 512) + i)) (λ i. least_reads n q place count (stripe_of n (place / 512) + i)) (stripes_in n place count)
+      (λ i lt. least-alike (stripe_of n (place / 512) + i))
+
+  writes-alike : writes_for n p place count ≡ writes_for n q place count
+  writes-alike =
+      sum_same (λ i. writes_in n p place count (stripe_of n (place / 512) + i)) (λ i. writes_in n q place count (stripe_of n (place / 512) + i)) (stripes_in n place count)
+      (λ i lt. sum_same (writes_on n p place count (stripe_of n (place / 512) + i)) (writes_on n q place count (stripe_of n (place / 512) + i)) n
+      (λ j low. ap (λ (b : Bool). if is_changed n place count (stripe_of n (place / 512) + i) j && not b then 1 else 0) (same j)))
+
+-- no disk went out up to the end, and so none before
+pub still-out : (a b c : Group) → IsLater a b → IsLater b c → ((j : ℕ) → is_out a j ≡ false → is_out c j ≡ false) → (j : ℕ) → is_out b j ≡ is_out a j
+still-out a b c first later none j = elim (cases_Bool (is_out a j)) [
+  | inl gone ↦ first.grows j gone ∙ sym gone
+  | inr in0 ↦ elim (cases_Bool (is_out b j)) [
+    | inl fell ↦ absurd (false≢true (sym (none j in0) ∙ later.grows j fell))
+    | inr still ↦ still ∙ sym in0
+  ]
+]
+
+pub least-headers : {S : Type 0} (rack : Ghosts S) (a b : Group) (place count : ℕ) (s t u v : S) → b.disks ≡ a.disks → ((j : ℕ) → is_out b j ≡ is_out a j)
+    → MostCalls rack (2 * a.disks) s t → CallsLeast rack b.disks (is_out b) place count t u → v ≡ u → CallsWithHeaders rack a.disks (is_out a) place count s v
+least-headers rack a b place count s t u v width same headers call last =
+    let own : CallsLeast rack a.disks (is_out b) place count t v =
+    subst (λ (w : _). CallsLeast rack a.disks (is_out b) place count t w) (sym last) (subst (λ (n : ℕ). CallsLeast rack n (is_out b) place count t u) width call) in
+    record {
+      passes = omega (arith, headers, own.passes, reads-alike a.disks (is_out b) (is_out a) same place count);
+      stripes = omega (arith, headers, own.stripes, reads-alike a.disks (is_out b) (is_out a) same place count, writes-alike a.disks (is_out b) (is_out a) same place count);
+    }

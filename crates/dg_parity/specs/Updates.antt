@@ -84,6 +84,11 @@ pub record CallsLeast {S : Type 0} (rack : Ghosts S) (n : ℕ) (out : ℕ → Bo
   -- and no more than stripe by stripe
   pub stripes : MostCalls rack (reads_for n out place count + writes_for n out place count) before now
 
--- the same of a group, unless a disk of it went out
+-- The same where the headers are written first, in two rounds at most.
+pub record CallsWithHeaders {S : Type 0} (rack : Ghosts S) (n : ℕ) (out : ℕ → Bool) (place count : ℕ) (before now : S) : Type 0 where
+  pub passes : MostCalls rack (2 * n + (reads_for n out place count + n * passes_in n place count)) before now
+  pub stripes : MostCalls rack (2 * n + (reads_for n out place count + writes_for n out place count)) before now
+
+-- the least calls of a group, unless a disk of it went out
 abbrev pub StaysLeast : {S : Type 0} → Ghosts S → ℕ → (ℕ → Bool) → ℕ → ℕ → Group → Group → S → S → Type 0
 StaysLeast rack n out place count old new before now = ((new ≡ old) × CallsLeast rack n out place count before now) ⊎ FellOne old new

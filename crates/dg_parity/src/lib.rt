@@ -44,4 +44,4 @@ pub use parity_racks::ParityRack;
 pub use returns::mend;
 pub use stripes::{Spot, disk_length, locate};
 pub use told::{read, write};
-pub use updates::calls_by_chunks;
+pub use updates::{calls_by_chunks, reads_at_ends};
