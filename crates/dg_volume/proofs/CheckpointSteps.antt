@@ -1,17 +1,17 @@
 -- A volume makes a step by a save that is kept.
-use Rattle.std.proofs.Common.{◌≡◌, ◌≢◌, ◌∙◌, ◌<◌, ◌≤◌, ◌+◌, ◌*◌, ℕ, true, false, List, length, inl, inr, refl, sym, ap, subst, arith}
+use Rattle.std.proofs.Common.{◌≡◌, ◌≢◌, ◌∙◌, ◌+◌, ◌*◌, ℕ, true, false, List, inl, inr, refl, sym, ap, subst, arith}
 use Rattle.std.specs.Prelude.{IfSome, None, Option, Some}
 use Rattle.std.specs.Option.{option_map}
 use Rattle.std.proofs.lemmas.Bool.{false≢true}
 use Rattle.dg_io.specs.declared.checkpoints.CommitAnswer.{CommitAnswer}
 use Rattle.dg_io.specs.declared.outside.Rack.{Ghosts}
-use Rattle.dg_label.specs.Labels.{AreNumbers, AreSized, IsKeptOf, IsLabeled, IsOfBoundariesInUse, StandsLabeled}
+use Rattle.dg_label.specs.Labels.{AreNumbers, AreSized, IsKeptOf, IsOfBoundariesInUse, StandsLabeled}
 use Rattle.dg_label.specs.LineLaws.{seal_on}
 use Rattle.dg_label.specs.Seals.{HasGood, HasNoGood}
 use Rattle.dg_label.specs.declared.labels.KeptLabel.{KeptLabel}
-use Rattle.dg_model.specs.Changes.{IsLeastLostIn, SavesNone}
+use Rattle.dg_model.specs.Changes.{IsLeastLostIn}
 use Rattle.dg_model.specs.Lives.{boundary_at}
-use Rattle.dg_model.specs.Members.{is_lost, partner_of}
+use Rattle.dg_model.specs.Members.{partner_of}
 use Rattle.dg_model.specs.Seals.{HoldsLabel, LastLabel, forgotten, keeps_label}
 use Rattle.dg_model.specs.States.{IsLeastLost, State}
 use Rattle.dg_model.specs.declared.events.Event.TheVariants.{Save}
