@@ -1,32 +1,22 @@
--- What calls on single disks leave of an array and of its label.
-use Rattle.std.proofs.Common.{◌≡◌, ◌∙◌, ◌⊎◌, ◌<◌, ◌+◌, ◌*◌, ◌/◌, ℕ, Bool, true, false, List, length, inl, inr, refl, sym, ap, subst, arith}
-use Rattle.std.specs.Prelude.{IfSome, None, Option, Some, take}
+-- What calls on single disks leave of an array.
+use Rattle.std.proofs.Common.{◌≡◌, ◌∙◌, ◌⊎◌, ◌*◌, ℕ, Bool, true, false, inl, inr, refl, sym, ap, subst, arith}
+use Rattle.std.specs.Prelude.{Option}
 use Rattle.std.proofs.lemmas.Bool.{false≢true}
 use Rattle.dg_io.specs.DiskAnswers.{LeavesMembers, OneDisk}
 use Rattle.dg_io.specs.Disks.{DiskStates}
-use Rattle.dg_io.specs.Told.{IsSame, Told}
 use Rattle.dg_io.specs.declared.outside.Rack.{Ghosts}
-use Rattle.dg_label.specs.Labels.{AreSized, IsOfBoundariesInUse, StandsLabeled}
-use Rattle.dg_label.specs.declared.labels.KeptLabel.{KeptLabel}
 use Rattle.dg_model.proofs.MemberLaws.{NoneRecovers, struck_good_was}
-use Rattle.dg_model.specs.Blocks.{zeros}
 use Rattle.dg_model.specs.Members.{IsStruck, is_filling, is_good}
-use Rattle.dg_model.specs.Saves.{BeginsWith, HasBody}
-use Rattle.dg_model.specs.Saves as saves
-use Rattle.dg_model.specs.Seals.{HoldsLabel, LastLabel, label_on}
 use Rattle.dg_model.specs.States.{Counts}
-use Rattle.dg_model.specs.Tables.{Table}
 use Rattle.dg_model.specs.declared.members.MemberState.{MemberState}
 use Rattle.dg_model.specs.declared.members.MemberState.TheVariants.{Out}
-use Rattle.dg_model.specs.declared.shapes.Shape.{Shape}
 use Rattle.dg_store.specs.DiskCalls.{DiskLeaves}
 use Rattle.dg_store.specs.ReadLaws.{own_none}
-use Rattle.dg_store.specs.Stores.{IsSound, KeepsBlocks, members_of, rack_of, shape_of, table_of}
+use Rattle.dg_store.specs.Stores.{IsSound, KeepsBlocks, members_of, rack_of, table_of}
 use Rattle.dg_store.specs.declared.store.Store.{Store}
-use Rattle.dg_volume.proofs.LabelLaws.{CallsOnSlots, none_opens, relabels_none, relabels_then, then_opens, torn_none}
+use Rattle.dg_volume.proofs.ToldLaws.{StaysTold}
 use Rattle.dg_volume.proofs.VolumeSteps.{struck_fills, struck_out}
 use Rattle.dg_volume.specs.Disks.{FailsWhere, HandlesDisk}
-use Rattle.dg_volume.specs.Seals.{Relabels}
 
 -- ---- members
 
@@ -48,14 +38,6 @@ fails_good false s old new h q good = ap (λ (m : ℕ → MemberState). is_good 
 pub fails_or : (fails : Bool) (s : ℕ) (old new : ℕ → MemberState) → FailsWhere fails s old new → (new ≡ old) ⊎ IsStruck (2 * s) old new
 fails_or true s old new h = inr h
 fails_or false s old new h = inl h
-
--- ---- bytes
-
--- what is said of bytes that are as they were
-if_told : (P : List ℕ → Type 0) (before now : Option (List ℕ)) → Told IsSame before now → IfSome before P → IfSome now P
-if_told P before None told had = tt
-if_told P None (Some a) told had = absurd told
-if_told P (Some b) (Some a) told had = subst P (sym told) had
 
 -- ---- nothing is done
 
@@ -101,57 +83,20 @@ module _ {R : Type 0} (rack : Ghosts R) (width : R → Option ℕ) (groups : R �
     blocks = λ V stands. blocks V (first.blocks V stands);
   }
 
-  -- ---- what that leaves of the label
+  -- ---- what that leaves of the members
 
   module _ (s j : ℕ) (fails : Bool) (a b : Store R) (h : HandlesDisk rack width groups s j fails a b) where
-    pub shape_is : shape_of b ≡ shape_of a
-    shape_is = ap (λ (t : Table). t.shape) h.table
+    pub told_disk : StaysTold rack a b
+    told_disk = record {
+      sound = h.sound;
+      table = h.table;
+      same = h.leaves.same;
+      told_before = h.leaves.told_before;
+      back = fails_good fails s (members_of a) (members_of b) h.members;
+      outs = fails_out fails s (members_of a) (members_of b) h.members;
+      fills = fails_fills fails s (members_of a) (members_of b) h.members;
+      blocks = h.blocks;
+    }
 
     pub writes_are : (rack.counts (rack_of b)).writes ≡ (rack.counts (rack_of a)).writes
     writes_are = ap (λ (counts : Counts). counts.writes) h.leaves.counts_stay
-
-    slots : CallsOnSlots rack a a b
-    slots = record {
-      shape = shape_is;
-      rise = omega (arith, writes_are);
-      back = λ q was good. was;
-      outs = fails_out fails s (members_of a) (members_of b) h.members;
-      fills = fails_fills fails s (members_of a) (members_of b) h.members;
-      beside = λ q. torn_none 512 (((shape_of a).k + 1) * (shape_of a).l) (rack.bytes (rack_of a) q) (rack.bytes (rack_of b) q) (h.leaves.same q);
-    }
-
-    -- no seal was opened
-    pub relabels : (line : Shape) (kept : Option KeptLabel) → (labels : Relabels rack line a b kept kept) × (labels.opens ≡ false)
-    relabels line kept =
-        let none = relabels_none rack line a kept in (
-          relabels_then rack line a a b kept kept none slots (λ opens. writes_are),
-          then_opens rack line a a b kept kept none slots (λ opens. writes_are) ∙ none_opens rack line a kept,
-        )
-
-    -- the label stands as it stood
-    pub stands_still : (line : Shape) (kept : Option KeptLabel) (last : Option LastLabel) → StandsLabeled rack line a kept last → StandsLabeled rack line b kept last
-    stands_still line kept last stands = record {
-      kept = stands.kept;
-      holds = holds_at last stands.holds;
-      sizes = sizes_at last stands.sizes;
-      of_array = subst (λ (shape : Shape). IfSome last (IsOfBoundariesInUse line shape)) (sym shape_is) stands.of_array;
-      filling = λ q fills. stands.filling q (fails_fills fails s (members_of a) (members_of b) h.members q fills);
-      fresh = λ q below here lacks.
-          if_told (λ (all : List ℕ). take 512 all ≡ zeros 512) (rack.bytes (rack_of a) q) (rack.bytes (rack_of b) q) (h.leaves.same q)
-          (stands.fresh q (subst (λ (shape : Shape). q / 2 < shape.b) shape_is below)
-          (λ out. here (fails_out fails s (members_of a) (members_of b) h.members q out)) lacks);
-    }
-      where
-        holds_at : (last : Option LastLabel) → IfSome last (λ label. HoldsLabel label (rack.bytes (rack_of a))) → IfSome last (λ label. HoldsLabel label (rack.bytes (rack_of b)))
-        holds_at None holds = tt
-        holds_at (Some last) holds = record {
-          label = λ q keeps.
-              if_told (λ (all : List ℕ). BeginsWith all (label_on last q)) (rack.bytes (rack_of a) q) (rack.bytes (rack_of b) q) (h.leaves.same q) (holds.label q keeps);
-          body = λ q has sealed.
-              if_told (λ (all : List ℕ). HasBody all last.shape last.body) (rack.bytes (rack_of a) q) (rack.bytes (rack_of b) q) (h.leaves.same q) (holds.body q has sealed);
-        }
-
-        sizes_at : (last : Option LastLabel) → IfSome last (λ label. label.shape ≡ line → AreSized rack a label) → IfSome last (λ label. label.shape ≡ line → AreSized rack b label)
-        sizes_at None sizes = tt
-        sizes_at (Some last) sizes = λ named q keeps.
-            if_told (λ (all : List ℕ). saves.HasLength (label_on last q) (length all)) (rack.bytes (rack_of a) q) (rack.bytes (rack_of b) q) (h.leaves.same q) (sizes named q keeps)

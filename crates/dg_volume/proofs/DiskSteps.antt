@@ -1,30 +1,27 @@
 -- A volume makes a step by the loss and the mending of a single disk.
-use Rattle.std.proofs.Common.{◌≡◌, ◌∙◌, ◌<◌, ◌≤◌, ◌+◌, ◌*◌, ◌/◌, ℕ, Bool, true, false, List, length, inl, inr, refl, sym, ap, subst, arith}
-use Rattle.std.specs.Prelude.{IfSome, Option, Some}
+use Rattle.std.proofs.Common.{◌≡◌, ◌∙◌, ◌+◌, ◌*◌, ℕ, Bool, true, false, List, inl, inr, refl, sym, ap, subst, arith}
+use Rattle.std.specs.Prelude.{Option, Some}
 use Rattle.std.proofs.lemmas.Bool.{false≢true}
 use Rattle.dg_io.specs.declared.outside.Rack.{Ghosts}
-use Rattle.dg_label.specs.Labels.{StandsLabeled}
 use Rattle.dg_model.specs.Members.{IsStruck, is_lost}
-use Rattle.dg_model.specs.Saves.{AreHomes}
 use Rattle.dg_model.specs.Seals.{label_after}
-use Rattle.dg_model.specs.States.{Counts, CountsRise, State, has_lost}
+use Rattle.dg_model.specs.States.{Counts, CountsRise, State}
 use Rattle.dg_model.specs.Steps.{Handles}
-use Rattle.dg_model.specs.Tables.{Table}
 use Rattle.dg_model.specs.declared.events.Event.TheVariants.{DropDisk, MendDisk}
 use Rattle.dg_model.specs.declared.members.MemberState.{MemberState}
 use Rattle.dg_model.specs.declared.members.MemberState.TheVariants.{Out}
 use Rattle.dg_model.specs.declared.replies.Reply.TheVariants.{Already, Done, Failed, Lost, Mended, NotOut}
-use Rattle.dg_model.specs.declared.shapes.Shape.{Shape}
 use Rattle.dg_store.specs.ReadLaws.{rack_none}
 use Rattle.dg_store.specs.Stores as stores
 use Rattle.dg_store.specs.declared.store.Store.{Store}
-use Rattle.dg_volume.proofs.DiskLaws.{fails_good, fails_or, fails_out, handles_none, relabels, shape_is, stands_still, writes_are}
+use Rattle.dg_volume.proofs.DiskLaws.{fails_or, fails_out, handles_none, told_disk, writes_are}
 use Rattle.dg_volume.proofs.PlaceLaws.{lost_out}
-use Rattle.dg_volume.proofs.UseLaws.{HasPlace, fits_table, lost_in, lost_of, own_member}
-use Rattle.dg_volume.proofs.VolumeLaws.{Labels, labeled_by, line_same, lost_on, steps_from, under_by}
+use Rattle.dg_volume.proofs.ToldLaws.{StaysTold, holds_told, known_before, line_told, stands_after, stands_still, under_told, well_told}
+use Rattle.dg_volume.proofs.UseLaws.{HasPlace, lost_in, lost_of, own_member}
+use Rattle.dg_volume.proofs.VolumeLaws.{steps_from}
 use Rattle.dg_volume.specs.Disks.{HandlesDisk, LeavesDisks, place_of}
 use Rattle.dg_volume.specs.Regroups.{GoesOn}
-use Rattle.dg_volume.specs.Volumes.{FitsArray, IsInPlace, IsWell, Known, StandsFor, StandsIn, StandsUnder, StepsTo, line_of, members_of, rack_of, shape_of, state_of}
+use Rattle.dg_volume.specs.Volumes.{IsWell, Known, StandsFor, StandsIn, StandsUnder, StepsTo, line_of, members_of, rack_of, state_of}
 use Rattle.dg_volume.specs.declared.phases.InPhase as phases
 use Rattle.dg_volume.specs.declared.volumes.Volume.{Volume}
 
@@ -41,40 +38,15 @@ module _ {S R : Type 0} (phase : phases.Ghosts S) (rack : Ghosts R) where
     after = record a { store = store }
 
     module _ (fails : Bool) (h : HandlesDisk rack width groups s j fails a.store store) where
-      shape : shape_of after ≡ shape_of a
-      shape = shape_is rack width groups s j fails a.store store h
-
-      line : line_of after ≡ line_of a
-      line = line_same a after refl shape
-
-      labels : (labels : Labels rack a after) × (labels.opens ≡ false)
-      labels = relabels rack width groups s j fails a.store store h (line_of a) a.label
-
-      after_well : IsWell phase rack after
-      after_well = record {
-        array = h.sound;
-        levels = well.levels ∙ sym (ap (λ (x : Shape). x.l) shape);
-        marks = well.marks ∙ sym (ap (λ (x : Shape). x.n) shape);
-        inferred = subst (λ (x : Shape). IfSome (phase.kept a.phase) (FitsArray x)) (sym shape) well.inferred;
-        labeled = labeled_by rack a after line labels.0 well.labeled;
-        in_use = fits_table a after refl h.table well.in_use;
-        long = well.long;
-        homes_are = subst (λ (x : Shape). AreHomes x a.homes) (sym shape) well.homes_are;
-        few_homes = subst (λ (x : Shape). length a.homes ≤ x.n) (sym shape) well.few_homes;
-        copies_are = subst (λ (x : Shape). AreHomes x a.copies) (sym shape) well.copies_are;
-        uncopied = well.uncopied;
-        worn = λ worn.
-            ap (λ (x : Shape). has_lost x (stores.members_of store)) shape
-            ∙ lost_on (shape_of a) (members_of a) (stores.members_of store) (fails_good fails s (members_of a) (stores.members_of store) h.members) (well.worn worn);
-        settled = λ settled. subst (λ (x : Table). IsInPlace x (phase.kept a.phase) a.homes a.copies) (sym h.table) (well.settled settled);
-      }
+      told : StaysTold rack a.store store
+      told = told_disk rack width groups s j fails a.store store h
 
       pub goes : GoesOn phase rack a after
       goes =
           let counts = h.leaves.counts_stay in
           let calls : (rack.counts (stores.rack_of store)).calls ≡ (rack.counts (rack_of a)).calls = ap (λ (x : Counts). x.calls) counts in
           let writes = writes_are rack width groups s j fails a.store store h in
-          record { well = after_well; boundaries = refl; line = line; calls = omega (arith, calls); writes = omega (arith, writes) }
+          record { well = well_told phase rack a store told well; boundaries = refl; line = line_told phase rack a store told; calls = omega (arith, calls); writes = omega (arith, writes) }
 
       pub disks_left : (n : ℕ) → Some n ≡ width (rack_of a) → LeavesDisks rack width groups t j a after
       disks_left n is = record {
@@ -82,13 +54,6 @@ module _ {S R : Type 0} (phase : phases.Ghosts S) (rack : Ghosts R) where
         array = subst (λ (k : ℕ). HandlesDisk rack width groups k j fails a.store store) (sym place.is) h;
         idle = λ none. absurd (cc (is, none));
       }
-
-      -- what is told in the end was told before
-      told_before : {P : Type 0} → Known P rack after → Known P rack a
-      told_before known = (λ q below. h.leaves.told_before q (known.0 q (subst (λ (x : Shape). q / 2 < x.b) (sym shape) below)), known.1)
-
-      holds_on : (V : List (List ℕ)) → StandsFor phase rack a V → StandsFor phase rack after V
-      holds_on V holds = record { array = h.blocks V holds.array; inferred = holds.inferred }
 
       -- the state that it is in then, where the member may fail
       abbrev handled : State → List (List ℕ) → State
@@ -99,9 +64,9 @@ module _ {S R : Type 0} (phase : phases.Ghosts S) (rack : Ghosts R) where
       handled_in rest V label holds = record {
         is = refl;
         label =
-            subst (λ (opens : Bool). StandsUnder rack after (label_after opens (members_of a) (stores.members_of store) rest.label)) labels.1
-            (under_by rack a after line labels.0 well.labeled rest.label label);
-        holds = λ told. holds_on V (holds (told_before told));
+            under_told phase rack a store told (label_after false (members_of a) (stores.members_of store) rest.label)
+            (stands_after rack a.store store told (line_of a) a.label rest.label label);
+        holds = λ known. holds_told phase rack a store told V (holds (known_before phase rack a store told known));
       }
 
       handles : (rest : State) (V : List (List ℕ)) → Handles (state_of phase rack a rest V) t (handled rest V)
@@ -129,10 +94,8 @@ module _ {S R : Type 0} (phase : phases.Ghosts S) (rack : Ghosts R) where
           → StandsIn phase rack P after (state_of phase rack after rest V)
       still_in rest V label holds = record {
         is = refl;
-        label =
-            subst (λ (x : Shape). StandsLabeled rack x store a.label rest.label) (sym (line false h))
-            (stands_still rack width groups s j false a.store store h (line_of a) a.label rest.label label);
-        holds = λ told. holds_on false h V (holds (told_before false h told));
+        label = under_told phase rack a store (told false h) rest.label (stands_still rack a.store store (told false h) (line_of a) a.label rest.label label);
+        holds = λ known. holds_told phase rack a store (told false h) V (holds (known_before phase rack a store (told false h) known));
       }
 
       still_live : is_lost (members_of a) s ≡ false → is_lost (stores.members_of store) (place_of a t) ≡ true → ⊥

@@ -2,6 +2,7 @@ mod AnyLaws
 mod ArrayLaws
 mod AuditSteps
 mod BlankLaws
+mod CheckpointSteps
 mod CommitLaws
 mod CommitSteps
 mod CopySteps

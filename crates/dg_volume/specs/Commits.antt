@@ -1,11 +1,10 @@
 -- What a commit of a volume keeps, and what it leaves.
-use Rattle.std.specs.Prelude.{◌≡◌, ◌⊎◌, ◌&&◌, ℕ, true, false, List, Option}
+use Rattle.std.specs.Prelude.{◌≡◌, ◌⊎◌, ◌&&◌, ℕ, true, false, List, Option, ◌<◌, length, None}
 use Rattle.std.specs.Option.{option_map}
 use Rattle.dg_io.specs.Commits.{LeavesCommit, fell_in, is_marked}
 use Rattle.dg_io.specs.declared.checkpoints.CommitAnswer.{CommitAnswer}
 use Rattle.dg_io.specs.declared.outside.Rack.{Ghosts}
 use Rattle.dg_label.specs.Seals.{HasGood, HasNoGood}
-use Rattle.dg_label.specs.declared.labels.KeptLabel.{KeptLabel}
 use Rattle.dg_model.specs.Changes.{PassesSave, Saves}
 use Rattle.dg_model.specs.Marks.{marked}
 use Rattle.dg_model.specs.Members.{is_filling, is_good, partner_of}
@@ -14,13 +13,17 @@ use Rattle.dg_model.specs.Seals.{LastLabel, label_after}
 use Rattle.dg_model.specs.States.{State}
 use Rattle.dg_model.specs.declared.members.MemberState.{MemberState}
 use Rattle.dg_model.specs.declared.members.MemberState.TheVariants.{Out}
+use Rattle.dg_model.specs.declared.replies.Reply.{Reply}
+use Rattle.dg_model.specs.declared.replies.Reply.TheVariants.{Lost as LostReply, NotSaved as NotSavedReply, Saved as SavedReply}
 use Rattle.dg_regroup.specs.Extras.{extra_bytes}
 use Rattle.dg_regroup.specs.declared.extras.Extra.{Extra}
 use Rattle.dg_store.specs.Stores.{IsSound, IsWhole, KeepsBlocks}
 use Rattle.dg_store.specs.Stores as stores
 use Rattle.dg_store.specs.declared.store.Store.{Store}
 use Rattle.dg_volume.specs.Origins.{Origin, WasHeld}
-use Rattle.dg_volume.specs.Volumes.{StandsIn, cut_of, live_of, members_of, rack_of, shape_of}
+use Rattle.dg_volume.specs.Volumes.{Leaves, StandsIn, cut_of, live_of, members_of, rack_of, shape_of}
+use Rattle.dg_volume.specs.declared.commits.CheckpointAnswer.{CheckpointAnswer}
+use Rattle.dg_volume.specs.declared.commits.CheckpointAnswer.TheVariants.{Lost, NotSaved, Saved}
 use Rattle.dg_volume.specs.declared.phases.InPhase as phases
 use Rattle.dg_volume.specs.declared.volumes.Volume.{Volume}
 
@@ -88,3 +91,28 @@ pub record Commits {S R : Type 0} (phase : phases.Ghosts S) (rack : Ghosts R) (r
       → PassesSave before state → (label : Option LastLabel) → PassesSave before (committed rack new state label)
   pub saves : (origin : Origin R) (before state : State) (sequence : ℕ) → StandsIn phase rack (WasHeld rack origin) old state → Saves before sequence state
       → HasGood new.store → Saves before sequence (committed rack new state (option_map (left_on (members_of new)) state.label))
+
+-- ---- a save that is kept
+
+abbrev pub checkpoint_reply : CheckpointAnswer → Reply
+checkpoint_reply (Saved sequence) = SavedReply sequence
+checkpoint_reply (Lost s) = LostReply s
+checkpoint_reply NotSaved = NotSavedReply
+
+-- the rack keeps no checkpoint, and not all boundaries are in use
+pub record CannotSave {S R : Type 0} (room : R → Option ℕ) (volume : Volume S R) : Type 0 where
+  pub plain : room (rack_of volume) ≡ None
+  pub reduced : length (live_of volume) < volume.in_use.boundaries
+
+-- What was kept behind a save: the bytes of the members that were good then, and what stood beside the state before it.
+pub record KeepsSaved {S R : Type 0} (phase : phases.Ghosts S) (rack : Ghosts R) (room : R → Option ℕ) (old new : Volume S R) : Type 0 where
+  pub mid : Volume S R
+  pub answer : CommitAnswer
+  pub saved : Leaves phase phase rack old mid
+  pub commits : CommitsArray rack room (extra_bytes (extra_of old)) answer mid.store new.store
+
+-- By the answer. Where the save itself left no good member, nothing was kept anew.
+abbrev pub KeepsBy : {S R : Type 0} → phases.Ghosts S → Ghosts R → (R → Option ℕ) → Volume S R → Volume S R → CheckpointAnswer → Type 0
+KeepsBy phase rack room old new (Saved sequence) = KeepsSaved phase rack room old new × HasGood new.store
+KeepsBy phase rack room old new (Lost s) = Leaves phase phase rack old new ⊎ (KeepsSaved phase rack room old new × HasNoGood new.store)
+KeepsBy phase rack room old new NotSaved = new ≡ old

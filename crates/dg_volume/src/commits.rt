@@ -1,24 +1,41 @@
 // The checkpoint of a volume: its rack keeps the state as it stands on the members.
-ghost use Rattle.std.specs.Prelude.{◌≡◌, ◌≤◌, ◌<◌, ◌+◌, ◌*◌, ◌^◌, ◌++◌, ◌∷◌, ℕ, IfOk, IfSome, OnErr, OnOk, [], false, if◌then◌else◌, length, true};
+ghost use Rattle.std.specs.Prelude.{◌≡◌, ◌↔◌, ◌≤◌, ◌<◌, ◌+◌, ◌*◌, ◌^◌, ◌++◌, ◌∷◌, ℕ, IfOk, IfSome, OnErr, OnOk, [], false, if◌then◌else◌, length, true};
 ghost use Rattle.dg_io.specs.Commits.{fell_in, is_marked as is_marked_in};
 ghost use Rattle.dg_model.specs.Marks.{marked};
 ghost use Rattle.dg_model.specs.Members.{IsStruck, is_good as is_good_state};
+ghost use Rattle.dg_model.specs.declared.events.Event.{Event};
 ghost use Rattle.dg_regroup.specs.Extras.{IsExtra};
 ghost use Rattle.dg_regroup.specs.Marks.{IsMarkedToo};
 ghost use Rattle.dg_store.specs.Stores.{IsSound, IsWhole, KeepsBlocks, members_of, table_of};
 ghost use Rattle.dg_store.specs.Stores as stores;
-ghost use Rattle.dg_volume.specs.Commits.{AreGoodBits, Commits, CommitsArray, FailsMarked, extra_of};
+ghost use Rattle.dg_volume.specs.Commits.{AreGoodBits, CannotSave, Commits, CommitsArray, FailsMarked, KeepsBy, checkpoint_reply, extra_of};
+ghost use Rattle.dg_volume.specs.Copies.{StepsHot};
 ghost use Rattle.dg_volume.specs.Regroups.{GoesOn};
+ghost use Rattle.dg_volume.specs.Settles.{KeepsArray};
 ghost use Rattle.dg_volume.specs.Volumes.{IsWell, given_of, rack_of, shape_of};
 
+use crate::left_lists::has_good;
 use crate::phases::InPhase;
 use crate::saves::is_good;
 use crate::volumes::Volume;
+use dg_hot::Hot;
 use dg_io::{Checkpoint, CommitAnswer, NoMemory, Rack};
+use dg_label::SaveAnswer;
 use dg_model::{Bytes, Numbers};
 use dg_regroup::{Extra, write_extra};
 use dg_store::{Store, member_length, standing_is_sound};
 use std::alloc::Global;
+
+/// What became of keeping an array's state.
+#[derive(Clone, Copy, Debug, PartialEq, Eq)]
+pub enum CheckpointAnswer {
+    /// It is saved, under this number.
+    Saved(u64),
+    /// No member is good. The least boundary that is lost.
+    Lost(u8),
+    /// A boundary isn't in use, and the rack keeps no checkpoint. Nothing was done.
+    NotSaved,
+}
 
 /// Whether a member is marked.
 fn is_marked(marks: u32, member: u8) -> bool
@@ -111,6 +128,16 @@ fn commit_good<R: Checkpoint>(store: &mut Store<R>, extra: &[u8]) -> CommitAnswe
     answer
 }
 
+/// Whether the rack has room for so many extra bytes.
+fn has_room<R: Checkpoint>(store: &Store<R>, size: usize) -> bool
+    ensures { result ≡ true → IfSome (R.room_of (stores.rack_of store.now)) (λ room. size ≤ room) }
+{
+    match store.room() {
+        Some(room) => size <= room as usize,
+        None => true,
+    }
+}
+
 /// Puts a block last, if it is marked.
 fn push_marked(blocks: &mut Vec<u32>, block: u32, mark: bool) -> Result<(), NoMemory>
     ensures { OnOk result (blocks.new.items ≡ blocks.old.items ++ (if mark then block ∷ [] else [])) }
@@ -170,5 +197,49 @@ impl<S: InPhase, R: Checkpoint> Volume<S, R> {
         let extra = self.extra(alloc)?;
         let bytes = write_extra(alloc, &extra)?;
         Ok(commit_good(&mut self.store, &bytes))
+    }
+
+    /// Whether a boundary isn't in use, and the rack keeps no checkpoint.
+    fn cannot_save(&self) -> bool
+        requires { IsWell S.InPhase R.Rack self.now }
+        ensures some { result ≡ true → CannotSave R.room_of self.now }
+        ensures none { result ≡ false → CannotSave R.room_of self.now → ⊥ }
+    {
+        if self.store.room().is_some() {
+            return false;
+        }
+        self.in_use.live.len() < self.in_use.boundaries as usize
+    }
+
+    /// Saves the state of the array, and where the rack keeps a checkpoint makes it the one that is kept. Where no member is good behind that,
+    /// the label is the one that was kept before. A rack with less room than what stands beside the state takes is answered as want of memory.
+    pub fn checkpoint(&mut self, alloc: Global, hot: &Hot) -> Result<CheckpointAnswer, NoMemory>
+        requires well { IsWell S.InPhase R.Rack self.old }
+        ensures on { GoesOn S.InPhase R.Rack self.old self.new }
+        ensures steps { IfOk result (λ answer. StepsHot S.InPhase S.InPhase R.Rack hot.now self.old Event.Save (checkpoint_reply answer) self.new) }
+        ensures not_saved { IfOk result (λ answer. (answer ≡ CheckpointAnswer.NotSaved) ↔ CannotSave R.room_of self.old) }
+        ensures kept { IfOk result (KeepsBy S.InPhase R.Rack R.room_of self.old self.new) }
+        ensures err { OnErr result (KeepsArray R.Rack self.old self.new) }
+        ensures given { given_of self.new ≡ given_of self.old }
+    {
+        if self.cannot_save() {
+            return Ok(CheckpointAnswer::NotSaved);
+        }
+        let extra = self.extra(alloc)?;
+        let bytes = write_extra(alloc, &extra)?;
+        let before = self.label;
+        let sequence = match self.save(alloc, hot)? {
+            SaveAnswer::Saved(sequence) => sequence,
+            SaveAnswer::Lost(boundary) => return Ok(CheckpointAnswer::Lost(boundary)),
+        };
+        if !has_room(&self.store, bytes.len()) {
+            return Err(NoMemory);
+        }
+        commit_good(&mut self.store, &bytes);
+        if has_good(&self.store) {
+            return Ok(CheckpointAnswer::Saved(sequence));
+        }
+        self.label = before;
+        Ok(CheckpointAnswer::Lost(self.in_use.number(0)))
     }
 }

@@ -32,6 +32,7 @@ mod volumes;
 mod writes;
 
 pub use audits::AuditAnswer;
+pub use commits::CheckpointAnswer;
 pub use copies::AnyDiffuse;
 pub use dg_hot::{DiffuseAnswer, Hot};
 pub use dg_label::SaveAnswer;

@@ -106,6 +106,7 @@ impl<S: InPhase, R: Rack> Volume<S, R> {
         ensures leaves { Leaves S.InPhase S.InPhase R.Rack self.old self.new }
         ensures steps { IfOk result (λ answer. StepsHot S.InPhase S.InPhase R.Rack hot.now self.old Event.Save (save_reply answer) self.new) }
         ensures err { OnErr result (KeepsArray R.Rack self.old self.new) }
+        ensures array { KeepsArray R.Rack self.old self.new }
         ensures given { given_of self.new ≡ given_of self.old }
     {
         let body = self.body(alloc, hot)?;
