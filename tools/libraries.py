@@ -3,7 +3,8 @@
 
     tools/libraries.py prove FOLDER [LANES]        proves all of them, in clones FOLDER/lane0 and on; FOLDER/proved gets each library that is proved
     tools/libraries.py hand FOLDER CLONE [CRATE..] gives CLONE all proved libraries, and of each CRATE what its checks kept, so that only changes are proved
-    tools/libraries.py take GATE CLONE             gives CLONE the libraries that an `rt ci` in the clone GATE has proved so far, where CLONE has the same text
+    tools/libraries.py take GATE CLONE             gives CLONE the libraries that an `rt ci` in the clone GATE has proved so far, where CLONE has the same text; an
+                                                   `rt ci CRATE..` works in a copy, /tmp/rt-copy-PID-*/repo: name that as GATE
 
 `rt` locks a crate and all below it while it works, so two checks go side by side only in two clones. What is committed at the top is proved. A second `prove`
 proves what has changed since. It isn't the verdict: that is `rt ci`.

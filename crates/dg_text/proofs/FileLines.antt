@@ -20,7 +20,7 @@ text_more line_of xs i x lt is =
     ∙ ap (λ (l : List ℕ). flat_map line_of (take i xs) ++ l) (append-nil (line_of (get_or xs i x)) ∙ ap line_of (sym is))
 
 -- and those after it
-text_cut : {A : Type 0} (line_of : A → List ℕ) (xs : List A) (n : ℕ) → flat_map line_of xs ≡ flat_map line_of (take n xs) ++ flat_map line_of (drop n xs)
+pub text_cut : {A : Type 0} (line_of : A → List ℕ) (xs : List A) (n : ℕ) → flat_map line_of xs ≡ flat_map line_of (take n xs) ++ flat_map line_of (drop n xs)
 text_cut line_of xs n = ap (λ l. flat_map line_of l) (sym (take-append-drop n xs)) ∙ flat_map-append line_of (take n xs) (drop n xs)
 
 pub concat_more : (lines : List (List ℕ)) (i : ℕ) (line : List ℕ) → i < length lines → line ≡ get_or lines i line
@@ -78,18 +78,8 @@ took_part_of_lines line_of xs i x line lt is same a b c before part =
     let Q : List ℕ → Type 0 = λ l. Told (TookPart l) a c in
     subst Q whole (took_part_of_more (flat_map line_of (take i xs) ++ line_of x) (flat_map line_of (drop (i + 1) xs)) a c so_far)
 
--- a text in three parts
-pub took_three : (s t u : List ℕ) (a b c d : Option (List ℕ)) → Told (Took s) a b → Told (Took t) b c → Told (Took u) c d → Told (Took (s ++ (t ++ u))) a d
-took_three s t u a b c d first second third = took_both s (t ++ u) a b d first (took_both t u b c d second third)
-
-pub took_second : (s t u : List ℕ) (a b c : Option (List ℕ)) → Told (Took s) a b → Told (TookPart t) b c → Told (TookPart (s ++ (t ++ u))) a c
-took_second s t u a b c first second = took_part_after s (t ++ u) a b c first (took_part_of_more t u b c second)
-
-pub took_third : (s t u : List ℕ) (a b c d : Option (List ℕ)) → Told (Took s) a b → Told (Took t) b c → Told (TookPart u) c d → Told (TookPart (s ++ (t ++ u))) a d
-took_third s t u a b c d first second third = took_part_after s (t ++ u) a b d first (took_part_after t u b c d second third)
-
 -- the text of lines and the line that ends them
-ended : (text word number : List ℕ) → text ++ (word ++ (number ++ codes "\n")) ≡ (text ++ (word ++ number)) ++ codes "\n"
+pub ended : (text word number : List ℕ) → text ++ (word ++ (number ++ codes "\n")) ≡ (text ++ (word ++ number)) ++ codes "\n"
 ended text word number = ap (λ (l : List ℕ). text ++ l) (sym (append_assoc word number (codes "\n"))) ∙ sym (append_assoc text (word ++ number) (codes "\n"))
 
 pub took_ended : (text word : List ℕ) (n count : ℕ) → count ≡ n → (x y z : Option (List ℕ)) → Told (Took text) x y → Told (Took (word ++ (decimal count ++ codes "\n"))) y z

@@ -13,3 +13,6 @@ mod FileLines
 mod HexLineSteps
 mod Spellings
 mod ReplyLines
+mod Pieces
+mod CallSums
+mod ReplyCalls

@@ -89,6 +89,10 @@ pub path_word_first : (x : ℕ) (path : List ℕ) → path_word (x ∷ path) ≡
 unfolding path_word
 path_word_first x path = refl
 
+pub path_both : (path more : List ℕ) → path_word (path ++ more) ≡ path_word path ++ path_word more
+unfolding path_word
+path_both path more = flat_map-append spelled_byte path more
+
 pub path_word_last : (path : List ℕ) (x : ℕ) → path_word (path ++ x ∷ []) ≡ path_word path ++ spelled_byte x
 unfolding path_word
 path_word_last path x = flat_map-append spelled_byte path (x ∷ []) ∙ ap (λ (l : List ℕ). flat_map spelled_byte path ++ l) (append-nil (spelled_byte x))

@@ -1,5 +1,6 @@
 pub mod HexLineLaws
 pub mod HexLines
+pub mod LineCalls
 pub mod Lines
 pub mod ListingLineLaws
 pub mod ListingLines
@@ -8,5 +9,6 @@ pub mod RawByteLaws
 pub mod RawBytes
 pub mod Refusals
 pub mod Replies
+pub mod SinkCallSteps
 pub mod Texts
 pub mod ToldSteps

@@ -3,6 +3,8 @@ ghost use Rattle.std.specs.Prelude.{◌≡◌, ◌≤◌, ◌++◌, length, take
 ghost use Rattle.std.specs.Fmt.{decimal};
 ghost use Rattle.dg_io.specs.Told.{Told, Took, TookPart};
 ghost use Rattle.dg_io.specs.Faults.{HasCause};
+ghost use Rattle.dg_io.specs.SinkCalls.{LeavesSink};
+ghost use Rattle.dg_text.specs.LineCalls.{calls_of};
 ghost use Rattle.dg_text.specs.Replies.{finding_line, findings_text, reply_line};
 ghost use Rattle.dg_model.specs.declared.replies.Reply.{Reply};
 
@@ -16,6 +18,7 @@ pub fn write_audit<K: Sink>(sink: &mut K, findings: &[Finding]) -> Result<(), Fa
     ensures ok { OnOk result (Told (Took (reply_line (Reply.Audited findings.now))) (K.taken sink.old) (K.taken sink.new)) }
     ensures err { OnErr result (Told (TookPart (reply_line (Reply.Audited findings.now))) (K.taken sink.old) (K.taken sink.new)) }
     ensures cause { HasCause (K.faults sink.old) (K.faults sink.new) result }
+    ensures calls { LeavesSink K.whole K.calls (calls_of (Reply.Audited findings.now)) (length (reply_line (Reply.Audited findings.now))) sink.old sink.new }
 {
     write_findings(sink, findings)?;
     write_number(sink, b"end ", findings.len() as u128)
@@ -26,6 +29,7 @@ fn write_findings<K: Sink>(sink: &mut K, findings: &[Finding]) -> Result<(), Fai
     ensures ok { OnOk result (Told (Took (findings_text findings.now)) (K.taken sink.old) (K.taken sink.new)) }
     ensures err { OnErr result (Told (TookPart (findings_text findings.now)) (K.taken sink.old) (K.taken sink.new)) }
     ensures cause { HasCause (K.faults sink.old) (K.faults sink.new) result }
+    ensures calls { LeavesSink K.whole K.calls (length findings.now) (length (findings_text findings.now)) sink.old sink.new }
 {
     for finding in findings {
         write_finding(sink, *finding)?;
@@ -38,6 +42,7 @@ fn write_finding<K: Sink>(sink: &mut K, finding: Finding) -> Result<(), Failed>
     ensures ok { OnOk result (Told (Took (finding_line finding)) (K.taken sink.old) (K.taken sink.new)) }
     ensures err { OnErr result (Told (TookPart (finding_line finding)) (K.taken sink.old) (K.taken sink.new)) }
     ensures cause { HasCause (K.faults sink.old) (K.faults sink.new) result }
+    ensures calls { LeavesSink K.whole K.calls 1 (length (finding_line finding)) sink.old sink.new }
 {
     match finding {
         Finding::Bad(kind, n) => write_kind(sink, b"bad ", kind, n),

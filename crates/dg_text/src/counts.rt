@@ -3,6 +3,7 @@ ghost use Rattle.std.specs.Prelude.{◌≡◌, ◌≤◌, ◌+◌, ◌++◌, len
 ghost use Rattle.std.specs.Fmt.{decimal};
 ghost use Rattle.dg_io.specs.Told.{Told, Took, TookPart};
 ghost use Rattle.dg_io.specs.Faults.{HasCause};
+ghost use Rattle.dg_io.specs.SinkCalls.{LeavesSink};
 
 use crate::replies::put;
 use dg_io::{Sink, write_all};
@@ -21,6 +22,7 @@ pub fn write_number<K: Sink>(sink: &mut K, word: &[u8], n: u128) -> Result<(), F
     ensures ok { OnOk result (Told (Took (word.now ++ (decimal n ++ codes "\n"))) (K.taken sink.old) (K.taken sink.new)) }
     ensures err { OnErr result (Told (TookPart (word.now ++ (decimal n ++ codes "\n"))) (K.taken sink.old) (K.taken sink.new)) }
     ensures cause { HasCause (K.faults sink.old) (K.faults sink.new) result }
+    ensures calls { LeavesSink K.whole K.calls 1 (length (word.now ++ (decimal n ++ codes "\n"))) sink.old sink.new }
 {
     let mut line = [0u8; NUMBER_ROOM];
     let end = spell_number(&mut line, word, n);
@@ -41,6 +43,7 @@ pub fn write_numbers<K: Sink>(
     ensures ok { OnOk result (Told (Took (word.now ++ (decimal n ++ (between.now ++ (decimal m ++ codes "\n"))))) (K.taken sink.old) (K.taken sink.new)) }
     ensures err { OnErr result (Told (TookPart (word.now ++ (decimal n ++ (between.now ++ (decimal m ++ codes "\n"))))) (K.taken sink.old) (K.taken sink.new)) }
     ensures cause { HasCause (K.faults sink.old) (K.faults sink.new) result }
+    ensures calls { LeavesSink K.whole K.calls 1 (length (word.now ++ (decimal n ++ (between.now ++ (decimal m ++ codes "\n"))))) sink.old sink.new }
 {
     let mut line = [0u8; NUMBERS_ROOM];
     let end = spell_numbers(&mut line, word, n, between, m);

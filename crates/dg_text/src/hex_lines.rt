@@ -22,9 +22,10 @@ pub struct HexLines<'a, K> {
 }
 
 impl<'a, K: Sink> HexLines<'a, K> {
-    ghost use Rattle.std.specs.Prelude.{◌≡◌, ◌≤◌, ◌<◌, ◌++◌, [], length, take, codes, IfOk, OnOk, OnErr};
+    ghost use Rattle.std.specs.Prelude.{◌≡◌, ◌≤◌, ◌<◌, ◌+◌, ◌++◌, [], length, take, codes, IfOk, OnOk, OnErr};
     ghost use Rattle.dg_io.specs.Told.{Told, Took, TookPart};
     ghost use Rattle.dg_io.specs.Faults.{HasCause};
+    ghost use Rattle.dg_io.specs.SinkCalls.{LeavesSink};
     ghost use Rattle.dg_text.specs.HexLines.{waiting, rest_lines, TookBytes, TookBytesPart, Ends, EndsPart, last_line, length_of, loan_of, sink_of};
     ghost use Rattle.dg_text.specs.Replies.{file_text};
 
@@ -50,8 +51,8 @@ impl<'a, K: Sink> HexLines<'a, K> {
         requires { 0 < length bytes.now }
         ensures some { IfOk result (λ n. 0 < n) }
         ensures within { IfOk result (λ n. n ≤ length bytes.now) }
-        ensures ok { IfOk result (λ n. TookBytes K.taken self.old (take n bytes.now) self.new) }
-        ensures err { OnErr result (TookBytesPart K.taken self.old bytes.now self.new) }
+        ensures ok { IfOk result (λ n. TookBytes K.Sink self.old (take n bytes.now) self.new) }
+        ensures err { OnErr result (TookBytesPart K.Sink self.old bytes.now self.new) }
         ensures cause { HasCause (K.faults (sink_of self.old)) (K.faults (sink_of self.new)) result }
     {
         let room = self.l as usize - self.used;
@@ -74,6 +75,8 @@ impl<'a, K: Sink> HexLines<'a, K> {
         ensures err { OnErr result (Told (TookPart (file_text (rest_lines (waiting self.old)))) (K.taken (sink_of self.old)) (K.taken (sink_of self.new))) }
         ensures sink { loan_of self.new ≡ loan_of self.old }
         ensures cause { HasCause (K.faults (sink_of self.old)) (K.faults (sink_of self.new)) result }
+        ensures calls { LeavesSink K.whole K.calls (length (rest_lines (waiting self.old))) (length (file_text (rest_lines (waiting self.old))))
+            (sink_of self.old) (sink_of self.new) }
     {
         let end = self.used;
         if end == 0 {
@@ -93,6 +96,8 @@ impl<'a, K: Sink> HexLines<'a, K> {
             (K.taken (sink_of self.new))) }
         ensures sink { loan_of self.new ≡ loan_of self.old }
         ensures cause { HasCause (K.faults (sink_of self.old)) (K.faults (sink_of self.new)) result }
+        ensures calls { LeavesSink K.whole K.calls (length (rest_lines (waiting self.old)) + 1)
+            (length (file_text (rest_lines (waiting self.old)) ++ last_line word.now n)) (sink_of self.old) (sink_of self.new) }
     {
         self.flush()?;
         write_number(&mut *self.sink, word, n as u128)
@@ -100,8 +105,8 @@ impl<'a, K: Sink> HexLines<'a, K> {
 
     /// Writes the bytes that wait as the last line, and the line that ends a file of `n` bytes.
     pub fn end(&mut self, n: u32) -> Result<(), Failed>
-        ensures ok { OnOk result (Ends K.taken (last_line (codes "end ") n) self.old self.new) }
-        ensures err { OnErr result (EndsPart K.taken (last_line (codes "end ") n) self.old self.new) }
+        ensures ok { OnOk result (Ends K.Sink (last_line (codes "end ") n) self.old self.new) }
+        ensures err { OnErr result (EndsPart K.Sink (last_line (codes "end ") n) self.old self.new) }
         ensures sink { loan_of self.new ≡ loan_of self.old }
         ensures cause { HasCause (K.faults (sink_of self.old)) (K.faults (sink_of self.new)) result }
     {
@@ -111,8 +116,8 @@ impl<'a, K: Sink> HexLines<'a, K> {
     /// Writes the bytes that wait as the last line, and the line that ends a file of which only the first `n` bytes
     /// could be read.
     pub fn cut(&mut self, n: u32) -> Result<(), Failed>
-        ensures ok { OnOk result (Ends K.taken (last_line (codes "cut ") n) self.old self.new) }
-        ensures err { OnErr result (EndsPart K.taken (last_line (codes "cut ") n) self.old self.new) }
+        ensures ok { OnOk result (Ends K.Sink (last_line (codes "cut ") n) self.old self.new) }
+        ensures err { OnErr result (EndsPart K.Sink (last_line (codes "cut ") n) self.old self.new) }
         ensures sink { loan_of self.new ≡ loan_of self.old }
         ensures cause { HasCause (K.faults (sink_of self.old)) (K.faults (sink_of self.new)) result }
     {
@@ -124,9 +129,9 @@ impl<K: Sink> Pieces for HexLines<'_, K> {
     ghost use Rattle.dg_text.specs.HexLines.{TookBytes, TookBytesPart};
     ghost use Rattle.dg_text.specs.HexLineLaws.{took_nothing, took_then, took_then_part, took_part_of};
 
-    ghost took = { TookBytes K.taken };
+    ghost took = { TookBytes K.Sink };
 
-    ghost took_part = { TookBytesPart K.taken };
+    ghost took_part = { TookBytesPart K.Sink };
 
     ghost faults = { λ s. K.faults s.sink.now };
 
@@ -140,11 +145,11 @@ impl<K: Sink> Pieces for HexLines<'_, K> {
         Ok(())
     }
 
-    ghost nothing = { λ s. took_nothing K.taken s };
+    ghost nothing = { λ s. took_nothing K.Sink s };
 
-    ghost then = { λ a b c x y first second. took_then K.taken a b c x y first second };
+    ghost then = { λ a b c x y first second. took_then K.Sink a b c x y first second };
 
-    ghost then_part = { λ a b c x y first second. took_then_part K.taken a b c x y first second };
+    ghost then_part = { λ a b c x y first second. took_then_part K.Sink a b c x y first second };
 
-    ghost part = { λ a b x y first. took_part_of K.taken a b x y first };
+    ghost part = { λ a b x y first. took_part_of K.Sink a b x y first };
 }

@@ -1,7 +1,9 @@
 // Laws of lines.
-ghost use Rattle.std.specs.Prelude.{◌≡◌, ◌++◌, ℕ, List, Option, Result};
+ghost use Rattle.std.specs.Prelude.{◌≡◌, ◌≤◌, ◌++◌, ℕ, List, Option, Result};
 ghost use Rattle.dg_model.specs.declared.shapes.Shape.{Shape};
 ghost use Rattle.dg_model.specs.declared.events.Event.{Event};
+ghost use Rattle.dg_model.specs.declared.replies.Reply.{Reply};
+ghost use Rattle.dg_text.specs.LineCalls.{HasShortLines, calls_of, lines_of};
 ghost use Rattle.dg_text.specs.Refusals.{Reads};
 ghost use Rattle.dg_text.specs.declared.lines.BadLine.{BadLine};
 ghost use Rattle.dg_text.specs.Lines.{AreInPlace, IsInPlace, input_of, line_of};
@@ -26,4 +28,9 @@ pub fn reading_is_unique()
 /// A line has a reading where it stands.
 pub fn line_is_read()
     ensures { (shape : Option Shape) (line : List ℕ) → (reading : Result Event BadLine) × Reads shape line reading }
+{}
+
+/// A reply whose lines hold no more than a block, a name of a directory or a path of an event is written by one call a line.
+pub fn short_lines_are_one_call()
+    ensures { (reply : Reply) → HasShortLines reply → calls_of reply ≤ lines_of reply }
 {}

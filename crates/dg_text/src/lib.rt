@@ -21,7 +21,9 @@ mod written;
 
 pub use audits::write_audit;
 pub use hex_lines::HexLines;
-pub use laws::{input_is_unique, line_is_read, line_is_unique, reading_is_unique};
+pub use laws::{
+    input_is_unique, line_is_read, line_is_unique, reading_is_unique, short_lines_are_one_call,
+};
 pub use lines::{BadLine, longest_line, read_line};
 pub use listing_lines::Lines;
 pub use listings::Form;

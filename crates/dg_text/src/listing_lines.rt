@@ -15,9 +15,10 @@ pub struct Lines<'a, K> {
 }
 
 impl<'a, K: Sink> Lines<'a, K> {
-    ghost use Rattle.std.specs.Prelude.{◌≡◌, codes, OnOk, OnErr};
+    ghost use Rattle.std.specs.Prelude.{◌≡◌, length, codes, OnOk, OnErr};
     ghost use Rattle.dg_io.specs.Told.{Told, Took, TookPart};
     ghost use Rattle.dg_io.specs.Faults.{HasCause};
+    ghost use Rattle.dg_io.specs.SinkCalls.{LeavesSink};
     ghost use Rattle.dg_text.specs.ListingLines.{form_of, loan_of, sink_of};
     ghost use Rattle.dg_text.specs.HexLines.{last_line};
 
@@ -36,6 +37,7 @@ impl<'a, K: Sink> Lines<'a, K> {
         ensures err { OnErr result (Told (TookPart (last_line (codes "end ") n)) (K.taken (sink_of self.old)) (K.taken (sink_of self.new))) }
         ensures sink { loan_of self.new ≡ loan_of self.old }
         ensures cause { HasCause (K.faults (sink_of self.old)) (K.faults (sink_of self.new)) result }
+        ensures calls { LeavesSink K.whole K.calls 1 (length (last_line (codes "end ") n)) (sink_of self.old) (sink_of self.new) }
     {
         write_number(&mut *self.sink, b"end ", n as u128)
     }
@@ -46,6 +48,7 @@ impl<'a, K: Sink> Lines<'a, K> {
         ensures err { OnErr result (Told (TookPart (last_line (codes "cut ") n)) (K.taken (sink_of self.old)) (K.taken (sink_of self.new))) }
         ensures sink { loan_of self.new ≡ loan_of self.old }
         ensures cause { HasCause (K.faults (sink_of self.old)) (K.faults (sink_of self.new)) result }
+        ensures calls { LeavesSink K.whole K.calls 1 (length (last_line (codes "cut ") n)) (sink_of self.old) (sink_of self.new) }
     {
         write_number(&mut *self.sink, b"cut ", n as u128)
     }
@@ -55,9 +58,9 @@ impl<K: Sink> Listing for Lines<'_, K> {
     ghost use Rattle.dg_text.specs.ListingLines.{TookEntries, TookEntriesPart};
     ghost use Rattle.dg_text.specs.ListingLineLaws.{took_no_entry, took_entries, took_entries_part, took_part_of_entries};
 
-    ghost took = { TookEntries K.taken };
+    ghost took = { TookEntries K.Sink };
 
-    ghost took_part = { TookEntriesPart K.taken };
+    ghost took_part = { TookEntriesPart K.Sink };
 
     ghost faults = { λ s. K.faults s.sink.now };
 
@@ -72,11 +75,11 @@ impl<K: Sink> Listing for Lines<'_, K> {
         write_entry_line(&mut *self.sink, self.form, depth, inode, kind, size, name)
     }
 
-    ghost nothing = { λ s. took_no_entry K.taken s };
+    ghost nothing = { λ s. took_no_entry K.Sink s };
 
-    ghost then = { λ a b c x y first second. took_entries K.taken a b c x y first second };
+    ghost then = { λ a b c x y first second. took_entries K.Sink a b c x y first second };
 
-    ghost then_part = { λ a b c x y first second. took_entries_part K.taken a b c x y first second };
+    ghost then_part = { λ a b c x y first second. took_entries_part K.Sink a b c x y first second };
 
-    ghost part = { λ a b x y first. took_part_of_entries K.taken a b x y first };
+    ghost part = { λ a b x y first. took_part_of_entries K.Sink a b x y first };
 }

@@ -1,8 +1,11 @@
 // The lines of a listing. Each line of a name that a directory can have is written by one call, without memory.
-ghost use Rattle.std.specs.Prelude.{◌≡◌, ◌≤◌, ◌+◌, ◌*◌, ◌++◌, ℕ, All, length, take, codes, OnOk, OnErr};
+ghost use Rattle.std.specs.Prelude.{◌≡◌, ◌≤◌, ◌<◌, ◌+◌, ◌*◌, ◌++◌, ℕ, All, length, take, codes, OnOk, OnErr};
 ghost use Rattle.std.specs.Fmt.{decimal};
 ghost use Rattle.dg_io.specs.Told.{Told, Took, TookPart};
 ghost use Rattle.dg_io.specs.Faults.{HasCause};
+ghost use Rattle.dg_io.specs.SinkCalls.{LeavesSink};
+ghost use Rattle.std.specs.List.{sum_by};
+ghost use Rattle.dg_text.specs.LineCalls.{entry_calls, pieces};
 ghost use Rattle.dg_text.specs.Lines.{path_word, spelled_byte};
 ghost use Rattle.dg_text.specs.Listings.{front_in, line_in, listing_text};
 ghost use Rattle.dg_text.specs.Replies.{kind_letter};
@@ -47,6 +50,7 @@ pub fn write_listing<K: Sink>(
     ensures err { OnErr result (Told (TookPart ((listing_text form entries.now ++ (word.now ++ decimal (length entries.now))) ++ codes "\n"))
         (K.taken sink.old) (K.taken sink.new)) }
     ensures cause { HasCause (K.faults sink.old) (K.faults sink.new) result }
+    ensures calls { LeavesSink K.whole K.calls (sum_by entry_calls entries.now + 1) (length ((listing_text form entries.now ++ (word.now ++ decimal (length entries.now))) ++ codes "\n")) sink.old sink.new }
 {
     write_entries(sink, form, entries)?;
     write_number(sink, word, entries.len() as u128)
@@ -57,6 +61,7 @@ fn write_entries<K: Sink>(sink: &mut K, form: Form, entries: &[ListedEntry]) -> 
     ensures ok { OnOk result (Told (Took (listing_text form entries.now)) (K.taken sink.old) (K.taken sink.new)) }
     ensures err { OnErr result (Told (TookPart (listing_text form entries.now)) (K.taken sink.old) (K.taken sink.new)) }
     ensures cause { HasCause (K.faults sink.old) (K.faults sink.new) result }
+    ensures calls { LeavesSink K.whole K.calls (sum_by entry_calls entries.now) (length (listing_text form entries.now)) sink.old sink.new }
 {
     for entry in entries {
         write_entry_line(
@@ -87,49 +92,41 @@ pub fn write_entry_line<K: Sink>(
     ensures err { OnErr result (Told (TookPart (line_in form (record { depth = depth; inode = inode; kind = kind; size = size; name = name.now })))
         (K.taken sink.old) (K.taken sink.new)) }
     ensures cause { HasCause (K.faults sink.old) (K.faults sink.new) result }
+    ensures calls { LeavesSink K.whole K.calls (pieces 255 (length name.now)) (length (line_in form (record { depth = depth; inode = inode; kind = kind; size = size; name = name.now }))) sink.old sink.new }
 {
     let mut line = [0u8; ENTRY_ROOM];
     let head = spell_head(&mut line, form, depth, inode, kind, size);
-    if name.len() > LONGEST_NAME {
-        return write_long_entry(sink, &line[..head], name);
+    write_name(sink, &mut line, head, name, LONGEST_NAME)
+}
+
+/// Writes a line that ends in a name, of which the front stands spelled in the room for a line: by one call, or where the
+/// name has more than `most` bytes, so many of them a call.
+pub fn write_name<K: Sink>(
+    sink: &mut K,
+    line: &mut [u8],
+    front: usize,
+    name: &[u8],
+    most: usize,
+) -> Result<(), Failed>
+    requires some { 0 < most }
+    requires room { front + 4 * most + 1 ≤ length line.old }
+    ensures ok { OnOk result (Told (Took (take front line.old ++ (path_word name.now ++ codes "\n"))) (K.taken sink.old) (K.taken sink.new)) }
+    ensures err { OnErr result (Told (TookPart (take front line.old ++ (path_word name.now ++ codes "\n"))) (K.taken sink.old) (K.taken sink.new)) }
+    ensures cause { HasCause (K.faults sink.old) (K.faults sink.new) result }
+    ensures calls { LeavesSink K.whole K.calls (pieces most (length name.now)) (length (take front line.old ++ (path_word name.now ++ codes "\n")))
+        sink.old sink.new }
+{
+    let mut end = front;
+    let mut at = 0;
+    while name.len() - at > most {
+        let full = put_name(line, end, &name[at..at + most]);
+        write_all(sink, &line[..full])?;
+        end = 0;
+        at += most;
     }
-    let end = put_name(&mut line, head, name);
-    let end = put(&mut line, end, b"\n");
-    write_all(sink, &line[..end])
-}
-
-/// Writes the line of an entry with a longer name than a directory can have, byte by byte; so of a longer path than most.
-pub fn write_long_entry<K: Sink>(sink: &mut K, head: &[u8], name: &[u8]) -> Result<(), Failed>
-    ensures ok { OnOk result (Told (Took (head.now ++ (path_word name.now ++ codes "\n"))) (K.taken sink.old) (K.taken sink.new)) }
-    ensures err { OnErr result (Told (TookPart (head.now ++ (path_word name.now ++ codes "\n"))) (K.taken sink.old) (K.taken sink.new)) }
-    ensures cause { HasCause (K.faults sink.old) (K.faults sink.new) result }
-{
-    write_all(sink, head)?;
-    write_name(sink, name)?;
-    write_all(sink, b"\n")
-}
-
-// Writes the spelling of a name, byte by byte.
-fn write_name<K: Sink>(sink: &mut K, name: &[u8]) -> Result<(), Failed>
-    ensures ok { OnOk result (Told (Took (path_word name.now)) (K.taken sink.old) (K.taken sink.new)) }
-    ensures err { OnErr result (Told (TookPart (path_word name.now)) (K.taken sink.old) (K.taken sink.new)) }
-    ensures cause { HasCause (K.faults sink.old) (K.faults sink.new) result }
-{
-    for byte in name {
-        write_byte(sink, *byte)?;
-    }
-    Ok(())
-}
-
-// Writes the spelling of a byte of a name.
-fn write_byte<K: Sink>(sink: &mut K, byte: u8) -> Result<(), Failed>
-    ensures ok { OnOk result (Told (Took (spelled_byte byte)) (K.taken sink.old) (K.taken sink.new)) }
-    ensures err { OnErr result (Told (TookPart (spelled_byte byte)) (K.taken sink.old) (K.taken sink.new)) }
-    ensures cause { HasCause (K.faults sink.old) (K.faults sink.new) result }
-{
-    let mut spelled = [0u8; 4];
-    let end = put_byte(&mut spelled, 0, byte);
-    write_all(sink, &spelled[..end])
+    let named = put_name(line, end, &name[at..]);
+    let all = put(line, named, b"\n");
+    write_all(sink, &line[..all])
 }
 
 // Spells what an entry's line says before the name, and answers where it ends.

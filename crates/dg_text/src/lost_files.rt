@@ -1,14 +1,17 @@
 // The lines of files that lost blocks. Each line of a path of a usual length is written by one call, without memory.
-ghost use Rattle.std.specs.Prelude.{◌≡◌, ◌≤◌, ◌++◌, length, take, codes, OnOk, OnErr};
+ghost use Rattle.std.specs.Prelude.{◌≡◌, ◌≤◌, ◌+◌, ◌++◌, length, take, codes, OnOk, OnErr};
 ghost use Rattle.std.specs.Fmt.{decimal};
 ghost use Rattle.dg_io.specs.Told.{Told, Took, TookPart};
 ghost use Rattle.dg_io.specs.Faults.{HasCause};
+ghost use Rattle.dg_io.specs.SinkCalls.{LeavesSink};
+ghost use Rattle.std.specs.List.{sum_by};
+ghost use Rattle.dg_text.specs.LineCalls.{path_calls, pieces};
 ghost use Rattle.dg_text.specs.Replies.{lost_line, lost_text};
 
 use crate::counts::write_number;
-use crate::listings::{put_name, write_long_entry};
+use crate::listings::write_name;
 use crate::replies::put;
-use dg_io::{Sink, write_all};
+use dg_io::Sink;
 use dg_model::{Failed, LostPath};
 use itoa::Buffer;
 
@@ -29,6 +32,7 @@ pub fn write_lost<K: Sink>(sink: &mut K, files: &[LostPath], word: &[u8]) -> Res
     ensures err { OnErr result (Told (TookPart ((lost_text files.now ++ (word.now ++ decimal (length files.now))) ++ codes "\n"))
         (K.taken sink.old) (K.taken sink.new)) }
     ensures cause { HasCause (K.faults sink.old) (K.faults sink.new) result }
+    ensures calls { LeavesSink K.whole K.calls (sum_by path_calls files.now + 1) (length ((lost_text files.now ++ (word.now ++ decimal (length files.now))) ++ codes "\n")) sink.old sink.new }
 {
     write_files(sink, files)?;
     write_number(sink, word, files.len() as u128)
@@ -39,6 +43,7 @@ fn write_files<K: Sink>(sink: &mut K, files: &[LostPath]) -> Result<(), Failed>
     ensures ok { OnOk result (Told (Took (lost_text files.now)) (K.taken sink.old) (K.taken sink.new)) }
     ensures err { OnErr result (Told (TookPart (lost_text files.now)) (K.taken sink.old) (K.taken sink.new)) }
     ensures cause { HasCause (K.faults sink.old) (K.faults sink.new) result }
+    ensures calls { LeavesSink K.whole K.calls (sum_by path_calls files.now) (length (lost_text files.now)) sink.old sink.new }
 {
     for file in files {
         write_lost_line(sink, file.inode(), file.path())?;
@@ -51,15 +56,11 @@ fn write_lost_line<K: Sink>(sink: &mut K, inode: u32, path: &[u8]) -> Result<(),
     ensures ok { OnOk result (Told (Took (lost_line (record { inode = inode; path = path.now }))) (K.taken sink.old) (K.taken sink.new)) }
     ensures err { OnErr result (Told (TookPart (lost_line (record { inode = inode; path = path.now }))) (K.taken sink.old) (K.taken sink.new)) }
     ensures cause { HasCause (K.faults sink.old) (K.faults sink.new) result }
+    ensures calls { LeavesSink K.whole K.calls (pieces 1023 (length path.now)) (length (lost_line (record { inode = inode; path = path.now }))) sink.old sink.new }
 {
     let mut line = [0u8; LINE_ROOM];
     let head = spell_lost(&mut line, inode);
-    if path.len() > LONGEST_PATH {
-        return write_long_entry(sink, &line[..head], path);
-    }
-    let end = put_name(&mut line, head, path);
-    let end = put(&mut line, end, b"\n");
-    write_all(sink, &line[..end])
+    write_name(sink, &mut line, head, path, LONGEST_PATH)
 }
 
 // Spells what such a line says before the path, and answers where it ends.

@@ -25,9 +25,9 @@ impl<K: Sink> Pieces for Raw<'_, K> {
     ghost use Rattle.dg_text.specs.RawBytes.{TookRaw, TookRawPart};
     ghost use Rattle.dg_text.specs.RawByteLaws.{took_raw_none, took_raw_then, took_raw_then_part, took_raw_part};
 
-    ghost took = { TookRaw K.taken };
+    ghost took = { TookRaw K.Sink };
 
-    ghost took_part = { TookRawPart K.taken };
+    ghost took_part = { TookRawPart K.Sink };
 
     ghost faults = { λ s. K.faults s.sink.now };
 
@@ -35,11 +35,11 @@ impl<K: Sink> Pieces for Raw<'_, K> {
         write_all(&mut *self.sink, bytes)
     }
 
-    ghost nothing = { λ s. took_raw_none K.taken s };
+    ghost nothing = { λ s. took_raw_none K.Sink s };
 
-    ghost then = { λ a b c x y first second. took_raw_then K.taken a b c x y first second };
+    ghost then = { λ a b c x y first second. took_raw_then K.Sink a b c x y first second };
 
-    ghost then_part = { λ a b c x y first second. took_raw_then_part K.taken a b c x y first second };
+    ghost then_part = { λ a b c x y first second. took_raw_then_part K.Sink a b c x y first second };
 
-    ghost part = { λ a b x y first. took_raw_part K.taken a b x y first };
+    ghost part = { λ a b x y first. took_raw_part K.Sink a b x y first };
 }

@@ -1,11 +1,13 @@
 // Replies. Each line that an array can answer is written by one call, without memory.
-ghost use Rattle.std.specs.Prelude.{◌≡◌, ◌≤◌, ◌+◌, ◌*◌, ◌++◌, ◌∷◌, [], length, take, codes, OnOk, OnErr};
+ghost use Rattle.std.specs.Prelude.{◌≡◌, ◌≤◌, ◌+◌, ◌*◌, ◌++◌, length, take, codes, OnOk, OnErr};
 ghost use Rattle.std.specs.Fmt.{decimal};
-ghost use Rattle.std.specs.List.{concat};
+ghost use Rattle.std.specs.List.{concat, sum_by};
 ghost use Rattle.dg_io.specs.Told.{Told, Took, TookPart};
 ghost use Rattle.dg_io.specs.Faults.{HasCause};
+ghost use Rattle.dg_io.specs.SinkCalls.{LeavesSink};
 ghost use Rattle.hex.specs.Hex.{encode_lower};
 ghost use Rattle.dg_text.specs.HexLines.{last_line};
+ghost use Rattle.dg_text.specs.LineCalls.{bytes_calls, calls_of};
 ghost use Rattle.dg_text.specs.Replies.{reply_line, refusal, kind_of, usage, block_line, bytes_line, file_text, blocks_text, super_word, bad_word, refusal_words};
 
 use crate::BadLine;
@@ -34,6 +36,7 @@ pub fn write_reply<K: Sink>(sink: &mut K, reply: &Reply) -> Result<(), Failed>
     ensures ok { OnOk result (Told (Took (reply_line reply.now)) (K.taken sink.old) (K.taken sink.new)) }
     ensures err { OnErr result (Told (TookPart (reply_line reply.now)) (K.taken sink.old) (K.taken sink.new)) }
     ensures cause { HasCause (K.faults sink.old) (K.faults sink.new) result }
+    ensures calls { LeavesSink K.whole K.calls (calls_of reply.now) (length (reply_line reply.now)) sink.old sink.new }
 {
     match reply {
         Reply::Done => write_all(sink, b"ok\n"),
@@ -86,6 +89,7 @@ pub fn write_data<K: Sink>(sink: &mut K, bytes: &[u8]) -> Result<(), Failed>
     ensures ok { OnOk result (Told (Took (reply_line (Reply.Data bytes.now))) (K.taken sink.old) (K.taken sink.new)) }
     ensures err { OnErr result (Told (TookPart (reply_line (Reply.Data bytes.now))) (K.taken sink.old) (K.taken sink.new)) }
     ensures cause { HasCause (K.faults sink.old) (K.faults sink.new) result }
+    ensures calls { LeavesSink K.whole K.calls (calls_of (Reply.Data bytes.now)) (length (reply_line (Reply.Data bytes.now))) sink.old sink.new }
 {
     if bytes.is_empty() {
         return write_all(sink, b"data -\n");
@@ -98,57 +102,51 @@ pub fn write_bytes_line<K: Sink>(sink: &mut K, bytes: &[u8]) -> Result<(), Faile
     ensures ok { OnOk result (Told (Took (bytes_line bytes.now)) (K.taken sink.old) (K.taken sink.new)) }
     ensures err { OnErr result (Told (TookPart (bytes_line bytes.now)) (K.taken sink.old) (K.taken sink.new)) }
     ensures cause { HasCause (K.faults sink.old) (K.faults sink.new) result }
+    ensures calls { LeavesSink K.whole K.calls (bytes_calls bytes.now) (length (bytes_line bytes.now)) sink.old sink.new }
 {
     write_hex_line(sink, b"bytes ", bytes)
 }
 
-// Writes a line of a word of at most 6 bytes and the hex digits of bytes: by one call, where a block can have so many.
+// Writes a line of a word of at most 6 bytes and the hex digits of bytes: by one call, or where they are more than a block
+// can have, so many of them a call.
 fn write_hex_line<K: Sink>(sink: &mut K, word: &[u8], bytes: &[u8]) -> Result<(), Failed>
     requires { length word.now ≤ 6 }
     ensures ok { OnOk result (Told (Took (word.now ++ (encode_lower bytes.now ++ codes "\n"))) (K.taken sink.old) (K.taken sink.new)) }
     ensures err { OnErr result (Told (TookPart (word.now ++ (encode_lower bytes.now ++ codes "\n"))) (K.taken sink.old) (K.taken sink.new)) }
     ensures cause { HasCause (K.faults sink.old) (K.faults sink.new) result }
+    ensures calls { LeavesSink K.whole K.calls (bytes_calls bytes.now) (length (word.now ++ (encode_lower bytes.now ++ codes "\n"))) sink.old sink.new }
 {
-    if bytes.len() > LARGEST {
-        return write_long_line(sink, word, bytes);
-    }
     let mut line = [0u8; HEX_ROOM];
-    let end = spell_hex(&mut line, word, bytes);
-    write_all(sink, &line[..end])
+    let front = put(&mut line, 0, word);
+    write_digits(sink, &mut line, front, bytes)
 }
 
-// Writes such a line of more bytes than a block can have, byte by byte.
-fn write_long_line<K: Sink>(sink: &mut K, word: &[u8], bytes: &[u8]) -> Result<(), Failed>
-    ensures ok { OnOk result (Told (Took (word.now ++ (encode_lower bytes.now ++ codes "\n"))) (K.taken sink.old) (K.taken sink.new)) }
-    ensures err { OnErr result (Told (TookPart (word.now ++ (encode_lower bytes.now ++ codes "\n"))) (K.taken sink.old) (K.taken sink.new)) }
+// Writes a line that ends in the hex digits of bytes, of which the front stands spelled in the room for a line: by one call,
+// or where they are more bytes than a block can have, so many of them a call.
+fn write_digits<K: Sink>(
+    sink: &mut K,
+    line: &mut [u8],
+    front: usize,
+    bytes: &[u8],
+) -> Result<(), Failed>
+    requires { front + 8193 ≤ length line.old }
+    ensures ok { OnOk result (Told (Took (take front line.old ++ (encode_lower bytes.now ++ codes "\n"))) (K.taken sink.old) (K.taken sink.new)) }
+    ensures err { OnErr result (Told (TookPart (take front line.old ++ (encode_lower bytes.now ++ codes "\n"))) (K.taken sink.old) (K.taken sink.new)) }
     ensures cause { HasCause (K.faults sink.old) (K.faults sink.new) result }
+    ensures calls { LeavesSink K.whole K.calls (bytes_calls bytes.now) (length (take front line.old ++ (encode_lower bytes.now ++ codes "\n")))
+        sink.old sink.new }
 {
-    write_all(sink, word)?;
-    write_digits(sink, bytes)?;
-    write_all(sink, b"\n")
-}
-
-// Writes the hex digits of bytes, byte by byte.
-fn write_digits<K: Sink>(sink: &mut K, bytes: &[u8]) -> Result<(), Failed>
-    ensures ok { OnOk result (Told (Took (encode_lower bytes.now)) (K.taken sink.old) (K.taken sink.new)) }
-    ensures err { OnErr result (Told (TookPart (encode_lower bytes.now)) (K.taken sink.old) (K.taken sink.new)) }
-    ensures cause { HasCause (K.faults sink.old) (K.faults sink.new) result }
-{
-    for byte in bytes {
-        write_pair(sink, *byte)?;
+    let mut end = front;
+    let mut at = 0;
+    while bytes.len() - at > LARGEST {
+        let full = put_hex(line, end, &bytes[at..at + LARGEST]);
+        write_all(sink, &line[..full])?;
+        end = 0;
+        at += LARGEST;
     }
-    Ok(())
-}
-
-// Writes the two hex digits of a byte.
-fn write_pair<K: Sink>(sink: &mut K, byte: u8) -> Result<(), Failed>
-    ensures ok { OnOk result (Told (Took (encode_lower (byte ∷ []))) (K.taken sink.old) (K.taken sink.new)) }
-    ensures err { OnErr result (Told (TookPart (encode_lower (byte ∷ []))) (K.taken sink.old) (K.taken sink.new)) }
-    ensures cause { HasCause (K.faults sink.old) (K.faults sink.new) result }
-{
-    let mut pair = [0u8; 2];
-    let end = put_hex(&mut pair, 0, &[byte]);
-    write_all(sink, &pair[..end])
+    let digits = put_hex(line, end, &bytes[at..]);
+    let all = put(line, digits, b"\n");
+    write_all(sink, &line[..all])
 }
 
 // Writes the lines of a file.
@@ -156,6 +154,7 @@ fn write_lines<K: Sink>(sink: &mut K, lines: &[Bytes]) -> Result<(), Failed>
     ensures ok { OnOk result (Told (Took (file_text lines.now)) (K.taken sink.old) (K.taken sink.new)) }
     ensures err { OnErr result (Told (TookPart (file_text lines.now)) (K.taken sink.old) (K.taken sink.new)) }
     ensures cause { HasCause (K.faults sink.old) (K.faults sink.new) result }
+    ensures calls { LeavesSink K.whole K.calls (sum_by bytes_calls lines.now) (length (file_text lines.now)) sink.old sink.new }
 {
     for line in lines {
         write_bytes_line(sink, line.as_slice())?;
@@ -182,6 +181,7 @@ fn write_file<K: Sink>(sink: &mut K, lines: &[Bytes], word: &[u8]) -> Result<(),
     ensures err { OnErr result (Told (TookPart ((file_text lines.now ++ (word.now ++ decimal (length (concat lines.now)))) ++ codes "\n"))
         (K.taken sink.old) (K.taken sink.new)) }
     ensures cause { HasCause (K.faults sink.old) (K.faults sink.new) result }
+    ensures calls { LeavesSink K.whole K.calls (sum_by bytes_calls lines.now + 1) (length ((file_text lines.now ++ (word.now ++ decimal (length (concat lines.now)))) ++ codes "\n")) sink.old sink.new }
 {
     write_lines(sink, lines)?;
     write_number(sink, word, bytes_in(lines))
@@ -192,6 +192,7 @@ fn write_blocks<K: Sink>(sink: &mut K, blocks: &[u32]) -> Result<(), Failed>
     ensures ok { OnOk result (Told (Took (reply_line (Reply.Blocks blocks.now))) (K.taken sink.old) (K.taken sink.new)) }
     ensures err { OnErr result (Told (TookPart (reply_line (Reply.Blocks blocks.now))) (K.taken sink.old) (K.taken sink.new)) }
     ensures cause { HasCause (K.faults sink.old) (K.faults sink.new) result }
+    ensures calls { LeavesSink K.whole K.calls (calls_of (Reply.Blocks blocks.now)) (length (reply_line (Reply.Blocks blocks.now))) sink.old sink.new }
 {
     write_block_lines(sink, blocks)?;
     write_number(sink, b"end ", blocks.len() as u128)
@@ -202,6 +203,7 @@ pub fn write_block_line<K: Sink>(sink: &mut K, block: u32) -> Result<(), Failed>
     ensures ok { OnOk result (Told (Took (block_line block)) (K.taken sink.old) (K.taken sink.new)) }
     ensures err { OnErr result (Told (TookPart (block_line block)) (K.taken sink.old) (K.taken sink.new)) }
     ensures cause { HasCause (K.faults sink.old) (K.faults sink.new) result }
+    ensures calls { LeavesSink K.whole K.calls 1 (length (block_line block)) sink.old sink.new }
 {
     write_number(sink, b"block ", block as u128)
 }
@@ -211,6 +213,7 @@ pub fn write_blocks_end<K: Sink>(sink: &mut K, count: u32) -> Result<(), Failed>
     ensures ok { OnOk result (Told (Took (last_line (codes "end ") count)) (K.taken sink.old) (K.taken sink.new)) }
     ensures err { OnErr result (Told (TookPart (last_line (codes "end ") count)) (K.taken sink.old) (K.taken sink.new)) }
     ensures cause { HasCause (K.faults sink.old) (K.faults sink.new) result }
+    ensures calls { LeavesSink K.whole K.calls 1 (length (last_line (codes "end ") count)) sink.old sink.new }
 {
     write_number(sink, b"end ", count as u128)
 }
@@ -220,6 +223,7 @@ fn write_block_lines<K: Sink>(sink: &mut K, blocks: &[u32]) -> Result<(), Failed
     ensures ok { OnOk result (Told (Took (blocks_text blocks.now)) (K.taken sink.old) (K.taken sink.new)) }
     ensures err { OnErr result (Told (TookPart (blocks_text blocks.now)) (K.taken sink.old) (K.taken sink.new)) }
     ensures cause { HasCause (K.faults sink.old) (K.faults sink.new) result }
+    ensures calls { LeavesSink K.whole K.calls (length blocks.now) (length (blocks_text blocks.now)) sink.old sink.new }
 {
     for block in blocks {
         write_block_line(sink, *block)?;
@@ -232,6 +236,7 @@ pub fn write_refusal<K: Sink>(sink: &mut K, number: u64, kind: BadLine) -> Resul
     ensures ok { OnOk result (Told (Took (refusal number kind)) (K.taken sink.old) (K.taken sink.new)) }
     ensures err { OnErr result (Told (TookPart (refusal number kind)) (K.taken sink.old) (K.taken sink.new)) }
     ensures cause { HasCause (K.faults sink.old) (K.faults sink.new) result }
+    ensures calls { LeavesSink K.whole K.calls 1 (length (refusal number kind)) sink.old sink.new }
 {
     let mut line = [0u8; REFUSAL_ROOM];
     let end = spell_refusal(&mut line, number, kind);
@@ -243,6 +248,7 @@ pub fn write_usage<K: Sink>(sink: &mut K) -> Result<(), Failed>
     ensures ok { OnOk result (Told (Took usage) (K.taken sink.old) (K.taken sink.new)) }
     ensures err { OnErr result (Told (TookPart usage) (K.taken sink.old) (K.taken sink.new)) }
     ensures cause { HasCause (K.faults sink.old) (K.faults sink.new) result }
+    ensures calls { LeavesSink K.whole K.calls 1 (length usage) sink.old sink.new }
 {
     write_all(
         sink,
@@ -259,17 +265,6 @@ pub fn put(line: &mut [u8], at: usize, piece: &[u8]) -> usize
     let end = at + piece.len();
     line[at..end].copy_from_slice(piece);
     end
-}
-
-// Spells a line of a word and the hex digits of bytes, and answers where it ends.
-fn spell_hex(line: &mut [u8], word: &[u8], bytes: &[u8]) -> usize
-    requires room { length word.now + 2 * length bytes.now + 1 ≤ length line.old }
-    ensures end { result ≤ length line.new }
-    ensures text { take result line.new ≡ word.now ++ (encode_lower bytes.now ++ codes "\n") }
-{
-    let start = put(line, 0, word);
-    let end = put_hex(line, start, bytes);
-    put(line, end, b"\n")
 }
 
 /// Puts the hex digits of bytes at a place of a line, and answers where they end.

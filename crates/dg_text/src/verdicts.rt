@@ -3,6 +3,7 @@ ghost use Rattle.std.specs.Prelude.{◌≡◌, ◌≤◌, ◌++◌, length, take
 ghost use Rattle.std.specs.Fmt.{decimal};
 ghost use Rattle.dg_io.specs.Told.{Told, Took, TookPart};
 ghost use Rattle.dg_io.specs.Faults.{HasCause};
+ghost use Rattle.dg_io.specs.SinkCalls.{LeavesSink};
 ghost use Rattle.dg_text.specs.Replies.{reply_line, malformation_word, room_words, super_word, system_word, who_words};
 ghost use Rattle.dg_model.specs.declared.replies.Reply.{Reply};
 
@@ -21,6 +22,7 @@ pub fn write_verdict<K: Sink>(sink: &mut K, who: Who) -> Result<(), Failed>
     ensures ok { OnOk result (Told (Took (reply_line (Reply.Verdict who))) (K.taken sink.old) (K.taken sink.new)) }
     ensures err { OnErr result (Told (TookPart (reply_line (Reply.Verdict who))) (K.taken sink.old) (K.taken sink.new)) }
     ensures cause { HasCause (K.faults sink.old) (K.faults sink.new) result }
+    ensures calls { LeavesSink K.whole K.calls 1 (length (reply_line (Reply.Verdict who))) sink.old sink.new }
 {
     match who {
         Who::System(kind) => write_all(sink, system_line(kind)),
@@ -38,6 +40,7 @@ pub fn write_no_room<K: Sink>(sink: &mut K, room: NoRoom) -> Result<(), Failed>
     ensures ok { OnOk result (Told (Took (reply_line (Reply.NoSpace room))) (K.taken sink.old) (K.taken sink.new)) }
     ensures err { OnErr result (Told (TookPart (reply_line (Reply.NoSpace room))) (K.taken sink.old) (K.taken sink.new)) }
     ensures cause { HasCause (K.faults sink.old) (K.faults sink.new) result }
+    ensures calls { LeavesSink K.whole K.calls 1 (length (reply_line (Reply.NoSpace room))) sink.old sink.new }
 {
     match room {
         NoRoom::System => write_all(sink, b"nospace system\n"),
@@ -51,6 +54,7 @@ pub fn write_malformation<K: Sink>(sink: &mut K, kind: BadKind, n: u32) -> Resul
     ensures ok { OnOk result (Told (Took (reply_line (Reply.Malformed kind n))) (K.taken sink.old) (K.taken sink.new)) }
     ensures err { OnErr result (Told (TookPart (reply_line (Reply.Malformed kind n))) (K.taken sink.old) (K.taken sink.new)) }
     ensures cause { HasCause (K.faults sink.old) (K.faults sink.new) result }
+    ensures calls { LeavesSink K.whole K.calls 1 (length (reply_line (Reply.Malformed kind n))) sink.old sink.new }
 {
     write_kind(sink, b"malformed ", kind, n)
 }
@@ -63,6 +67,7 @@ pub fn write_kind<K: Sink>(sink: &mut K, word: &[u8], kind: BadKind, n: u32) -> 
     ensures err { OnErr result (Told (TookPart (word.now ++ (malformation_word kind ++ (codes " " ++ (decimal n ++ codes "\n")))))
         (K.taken sink.old) (K.taken sink.new)) }
     ensures cause { HasCause (K.faults sink.old) (K.faults sink.new) result }
+    ensures calls { LeavesSink K.whole K.calls 1 (length (word.now ++ (malformation_word kind ++ (codes " " ++ (decimal n ++ codes "\n"))))) sink.old sink.new }
 {
     let mut line = [0u8; KIND_ROOM];
     let end = spell_kind(&mut line, word, kind, n);
@@ -89,6 +94,7 @@ pub fn write_home<K: Sink>(sink: &mut K, s: u32, copy: Option<u32>) -> Result<()
     ensures ok { OnOk result (Told (Took (reply_line (Reply.HomeAt s copy))) (K.taken sink.old) (K.taken sink.new)) }
     ensures err { OnErr result (Told (TookPart (reply_line (Reply.HomeAt s copy))) (K.taken sink.old) (K.taken sink.new)) }
     ensures cause { HasCause (K.faults sink.old) (K.faults sink.new) result }
+    ensures calls { LeavesSink K.whole K.calls 1 (length (reply_line (Reply.HomeAt s copy))) sink.old sink.new }
 {
     match copy {
         Some(t) => write_numbers(sink, b"home ", s, b" copy ", t),

@@ -159,6 +159,36 @@ fn long_lines_are_written_whole(rt: HostRuntime) -> Result<(), Fail> {
     Ok(())
 }
 
+// A listing of entries with such names.
+fn entries_with(alloc: Global, sizes: &[usize]) -> Result<ListedEntries, AllocError> {
+    let mut entries = Vec::new(alloc);
+    for n in sizes {
+        entries.push(ListedEntry::new(1, 6, Kind::Link, 3, alike(alloc, *n)?))?;
+    }
+    Ok(ListedEntries::new(entries))
+}
+
+// Twelve calls write these replies, so the next one, number 12 from 0, fails. Only the bytes that are more than those of a
+// block take two calls.
+#[test]
+fn each_line_is_one_call(rt: HostRuntime) -> Result<(), Fail> {
+    let alloc = rt.alloc();
+    let mut sink = MemSink::new(alloc, 32768, Vec::from_slice(alloc, &[12])?)?;
+    write_reply(
+        &mut sink,
+        &Reply::Listed(entries_with(alloc, &[255, 1, 255])?),
+    )?;
+    write_reply(&mut sink, &Reply::Data(alike(alloc, 4096)?))?;
+    write_reply(&mut sink, &Reply::LostFiles(two_lost(alloc)?))?;
+    write_reply(&mut sink, &Reply::Data(alike(alloc, 4097)?))?;
+    write_reply(&mut sink, &Reply::NodesCut(entries_with(alloc, &[])?))?;
+    write_reply(&mut sink, &Reply::HomeAt(1, Some(2)))?;
+    let written = sink.taken().len();
+    assert_eq!(rt; write_reply(&mut sink, &Reply::Done), Err(Failed));
+    assert!(rt; sink.taken().len() == written);
+    Ok(())
+}
+
 // Hands on the same entries, one by one.
 fn hand_three<L: Listing>(listing: &mut L) -> Result<(), Failed> {
     listing.line(1, 4, Kind::Directory, 512, b".")?;

@@ -2,10 +2,13 @@ mod AnyLaws
 mod ArrayLaws
 mod AuditSteps
 mod BlankLaws
+mod CommitLaws
+mod CommitSteps
 mod CopySteps
 mod CutLaws
 mod DiskLaws
 mod DiskSteps
+mod ExtraLaws
 mod FaultLaws
 mod FewLaws
 mod FileAnswers
@@ -17,6 +20,8 @@ mod LeftLaws
 mod LeftLists
 mod ListedLaws
 mod LooseLaws
+mod LostLaws
+mod LostSteps
 mod MoveSteps
 mod OpenLaws
 mod OpenSteps
@@ -35,6 +40,7 @@ mod SaveLaws
 mod SealSteps
 mod SettleSteps
 mod SettledSteps
+mod ToldLaws
 mod UseLaws
 mod VolumeLaws
 mod VolumeSteps

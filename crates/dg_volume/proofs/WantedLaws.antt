@@ -31,7 +31,7 @@ pointer_upper : (u a t v b k : ℕ) → Pointer v b k ≡ Pointer u a t → v �
 pointer_upper u a t v b k e = cc e
 
 -- a fragment has one owner
-one_owner : (claims : ℕ → ClaimSource → Type 0) (f i level j other : ℕ) → IsOwner claims f i level → IsOwner claims f j other → i ≡ j
+pub one_owner : (claims : ℕ → ClaimSource → Type 0) (f i level j other : ℕ) → IsOwner claims f i level → IsOwner claims f j other → i ≡ j
 one_owner claims f i level j other (by_own_slot {slot = s} only is) (by_own_slot {slot = t} single at) = slot_inode i s j t (only.only (Slot j t) single.claim)
 one_owner claims f i level j other (by_own_slot {slot = s} only is) (by_upper {upper = u} {at = t} {above = a} single at up) =
     absurd (slots_apart i s u a t (only.only (Pointer u a t) single.claim))

@@ -1,4 +1,5 @@
 pub mod Audits
+pub mod Commits
 pub mod Copies
 pub mod CutReads
 pub mod Disks
@@ -6,6 +7,7 @@ pub mod Faults
 pub mod Fronts
 pub mod HeldLaws
 pub mod Left
+pub mod LostFiles
 pub mod Numbers
 pub mod Opens
 pub mod Origins

@@ -7,14 +7,14 @@ use dg_io::{Failed, Rack};
 use dg_model::NoRoom;
 use dg_volume::{
     AnyPhase, AuditAnswer, CatAnswer, DiffuseAnswer, FailAnswer, HomeAnswer, Hot, Listing, Loose,
-    Phase, TendRun, Unsettled, Volume,
+    PathList, Phase, TendRun, TreeAnswer, Unsettled, Volume,
 };
 use std::alloc::Global;
 use std::process::Abort;
 use std::test::Fail;
 use ufs_model::{Kind, is_path};
 
-/// A listing that counts its entries.
+/// A listing that counts its entries, or its paths.
 #[derive(Drop)]
 struct Count {
     entries: u32,
@@ -35,6 +35,27 @@ impl Listing for Count {
         _size: u64,
         _name: &[u8],
     ) -> Result<(), Failed> {
+        self.entries = self.entries.saturating_add(1);
+        Ok(())
+    }
+
+    ghost nothing = { λ s. tt };
+
+    ghost then = { λ a b c x y first second. tt };
+
+    ghost then_part = { λ a b c x y first second. tt };
+
+    ghost part = { λ a b x y first. tt };
+}
+
+impl PathList for Count {
+    ghost took = { λ old paths new. Unit {0} };
+
+    ghost took_part = { λ old paths new. Unit {0} };
+
+    ghost faults = { λ listing. 0 };
+
+    fn line(&mut self, _inode: u32, _path: &[u8]) -> Result<(), Failed> {
         self.entries = self.entries.saturating_add(1);
         Ok(())
     }
@@ -74,6 +95,9 @@ fn settle_typed<R: Rack + Drop>(
     let mut out = Count { entries: 0 };
     assert_eq!(rt; settled.tree(alloc, &mut out)?, CatAnswer::Given(5));
     assert_eq!(rt; out.entries, 5);
+    let mut lost = Count { entries: 0 };
+    assert_eq!(rt; settled.lost_files(alloc, &mut lost)?, CatAnswer::Given(0));
+    assert_eq!(rt; lost.entries, 0);
     let mut hot = Hot::new(alloc)?;
     hot.touch(3)?;
     assert_eq!(rt; settled.diffuse(alloc, &hot)?, DiffuseAnswer::Diffused(1));
@@ -96,6 +120,28 @@ fn a_loose_volume_is_tended_and_settled(rt: HostRuntime) -> Result<(), Fail> {
     let files = image(alloc)?;
     let volume = up(alloc, rack(alloc, &[])?, shape_of(4, 64, 2)?, &files)?;
     settle_typed(&rt, alloc, volume, b"/a")
+}
+
+/// A volume that isn't settled names no files that lost blocks.
+fn name_none<R: Rack>(
+    rt: &impl Abort,
+    alloc: Global,
+    volume: &mut Volume<AnyPhase, R>,
+) -> Result<(), Fail>
+    requires { IsWell any_phase R.Rack volume.old }
+{
+    let mut lost = Count { entries: 0 };
+    let answer = volume.lost_files(alloc, &mut lost)?;
+    assert!(rt; answer == TreeAnswer::NotSettled && lost.entries == 0);
+    Ok(())
+}
+
+#[test]
+fn a_loose_volume_names_no_lost_files(rt: HostRuntime) -> Result<(), Fail> {
+    let alloc = rt.alloc();
+    let files = image(alloc)?;
+    let mut volume = up(alloc, rack(alloc, &[])?, shape_of(4, 64, 2)?, &files)?.into_any();
+    name_none(&rt, alloc, &mut volume)
 }
 
 /// Where its largest file has no room the volume is given back, loose.

@@ -7,6 +7,8 @@ mod list_tests;
 #[cfg(test)]
 mod parent_tests;
 #[cfg(test)]
+mod path_tests;
+#[cfg(test)]
 mod tests;
 #[cfg(test)]
 mod tree_tests;

@@ -126,7 +126,7 @@ returns-in_default g c =
     let b = record a { volume = c.cat.new.self } in
     let event = Cat c.args.path.now in
     let has = has_reply c.cat.result c.in_default.not-Given c.in_default.not-Cut c.in_default.not-SinkFault in
-    let rule = cat_nothing (TookBytes g.K.Sink.taken) (TookBytesPart g.K.Sink.taken) (λ (s : HexLines g.row.K.Denot). g.K.Sink.faults s.sink.now) c.new-lines.result c.cat.new.out
+    let rule = cat_nothing (TookBytes g.K.Sink) (TookBytesPart g.K.Sink) (λ (s : HexLines g.row.K.Denot). g.K.Sink.faults s.sink.now) c.new-lines.result c.cat.new.out
     (shape_of a).l (λ reply. StepsBy any_phase any_phase g.R.Rack (touched_by (phase_of any_phase a.volume) (given_of c.cat.new.self)) a.volume (Cat c.as_slice.result.now) reply c.cat.new.self)
     (λ reply. StepsTo any_phase any_phase g.R.Rack a.volume (Cat c.as_slice.result.now) reply c.cat.new.self) c.cat.result has c.cat.ensures.steps in
     let step = subst (λ (p : List ℕ). StepsTo any_phase any_phase g.R.Rack a.volume (Cat p) has.reply c.cat.new.self) c.as_slice.ensures rule.1 in

@@ -85,7 +85,7 @@ returns-in-SinkFault-clause-part g c is =
 pub returns-in_default : goal.returns-in_default
 returns-in_default g c =
     let has = has_reply c.ls.result c.in_default.not-Given c.in_default.not-Cut c.in_default.not-SinkFault in
-    let rule = ls_nothing (TookEntries g.K.Sink.taken) (TookEntriesPart g.K.Sink.taken) (λ (s : Lines g.row.K.Denot). g.K.Sink.faults s.sink.now) c.new-entries.result c.ls.new.out
+    let rule = ls_nothing (TookEntries g.K.Sink) (TookEntriesPart g.K.Sink) (λ (s : Lines g.row.K.Denot). g.K.Sink.faults s.sink.now) c.new-entries.result c.ls.new.out
     (λ reply. StepsTo any_phase any_phase g.R.Rack c.args.array.now.volume (Ls c.as_slice.result.now) reply c.ls.new.self) c.ls.result has c.ls.ensures.steps in
     let step = subst (λ (p : List ℕ). StepsTo any_phase any_phase g.R.Rack c.args.array.now.volume (Ls p) has.reply c.ls.new.self) c.as_slice.ensures rule.1 in
     let steps = steps_of g.R.Rack c.args.array.now (record c.args.array.now { volume = c.ls.new.self }) (Ls c.args.path.now) has.reply tt refl step in

@@ -24,7 +24,7 @@ returns-in-Ok-end-clause-answered g c =
     let lent = c.new-entries in
     let rule = rw c.in-Given.is at rw c.in-Is.is at c.in-Ok.ensures.steps in
     let entries = rule.0 in
-    let told = told_end (nodes_text entries) (last_line (codes "end ") c.in-Given.n) _ _ _ (nodes_told g.K.Sink.taken c.args.sink.now lent.result lent.ensures.form lent.ensures.sink entries c.tree.new.out rule.2) c.in-Ok-end.ensures.ok in
+    let told = told_end (nodes_text entries) (last_line (codes "end ") c.in-Given.n) _ _ _ (nodes_told g.K.Sink c.args.sink.now lent.result lent.ensures.form lent.ensures.sink entries c.tree.new.out rule.2) c.in-Ok-end.ensures.ok in
     record {
       reply = Nodes entries;
       steps = steps_of g.R.Rack a b Tree (Nodes entries) tt refl rule.3;
@@ -38,7 +38,7 @@ returns-in-Ok-cut-clause-answered g c =
     let lent = c.new-entries in
     let rule = rw c.in-Cut.is at rw c.in-Is.is at c.in-Ok.ensures.steps in
     let entries = rule.0 in
-    let told = told_end (nodes_text entries) (last_line (codes "cut ") c.in-Cut.n) _ _ _ (nodes_told g.K.Sink.taken c.args.sink.now lent.result lent.ensures.form lent.ensures.sink entries c.tree.new.out rule.2) c.in-Ok-cut.ensures.ok in
+    let told = told_end (nodes_text entries) (last_line (codes "cut ") c.in-Cut.n) _ _ _ (nodes_told g.K.Sink c.args.sink.now lent.result lent.ensures.form lent.ensures.sink entries c.tree.new.out rule.2) c.in-Ok-cut.ensures.ok in
     record {
       reply = NodesCut entries;
       steps = steps_of g.R.Rack a b Tree (NodesCut entries) tt refl rule.3;
@@ -52,7 +52,7 @@ returns-in-Err-clause-part g c is =
     let lent = c.new-entries in
     let rule = rw c.in-Given.is at rw c.in-Is.is at c.in-Ok.ensures.steps in
     let entries = rule.0 in
-    let told = part_end (nodes_text entries) (last_line (codes "end ") c.in-Given.n) _ _ _ (nodes_told g.K.Sink.taken c.args.sink.now lent.result lent.ensures.form lent.ensures.sink entries c.tree.new.out rule.2) c.in-Err.ensures.err in
+    let told = part_end (nodes_text entries) (last_line (codes "end ") c.in-Given.n) _ _ _ (nodes_told g.K.Sink c.args.sink.now lent.result lent.ensures.form lent.ensures.sink entries c.tree.new.out rule.2) c.in-Err.ensures.err in
     record {
       reply = Nodes entries;
       steps = weaker_steps g.R.Rack a b Tree (Nodes entries) (steps_of g.R.Rack a b Tree (Nodes entries) tt refl rule.3);
@@ -66,7 +66,7 @@ returns-in-Err-cut-clause-part g c is =
     let lent = c.new-entries in
     let rule = rw c.in-Cut.is at rw c.in-Is.is at c.in-Ok.ensures.steps in
     let entries = rule.0 in
-    let told = part_end (nodes_text entries) (last_line (codes "cut ") c.in-Cut.n) _ _ _ (nodes_told g.K.Sink.taken c.args.sink.now lent.result lent.ensures.form lent.ensures.sink entries c.tree.new.out rule.2) c.in-Err-cut.ensures.err in
+    let told = part_end (nodes_text entries) (last_line (codes "cut ") c.in-Cut.n) _ _ _ (nodes_told g.K.Sink c.args.sink.now lent.result lent.ensures.form lent.ensures.sink entries c.tree.new.out rule.2) c.in-Err-cut.ensures.err in
     record {
       reply = NodesCut entries;
       steps = weaker_steps g.R.Rack a b Tree (NodesCut entries) (steps_of g.R.Rack a b Tree (NodesCut entries) tt refl rule.3);
@@ -80,7 +80,7 @@ returns-in-SinkFault-clause-part g c is =
     let lent = c.new-entries in
     let rule = rw c.in-SinkFault.is at rw c.in-Is.is at c.in-Ok.ensures.steps in
     let entries = rule.0 in
-    let told = nodes_part g.K.Sink.taken c.args.sink.now lent.result lent.ensures.form lent.ensures.sink entries c.tree.new.out rule.1 in
+    let told = nodes_part g.K.Sink c.args.sink.now lent.result lent.ensures.form lent.ensures.sink entries c.tree.new.out rule.1 in
     record {
       reply = Nodes entries;
       steps = weaker_steps g.R.Rack a b Tree (Nodes entries) (steps_of g.R.Rack a b Tree (Nodes entries) tt refl rule.3);
@@ -92,14 +92,14 @@ returns-in_default-clause-wanting g c is =
     let a = c.args.array.now in
     let b = record a { volume = c.tree.new.self } in
     let lent = c.new-entries in
-    let wanted = tree_wanted g.K.Sink.taken c.args.sink.now lent.result lent.ensures.form lent.ensures.sink g.R.Rack a b c.tree.new.out refl c.in_default.ensures.part in
+    let wanted = tree_wanted g.K.Sink c.args.sink.now lent.result lent.ensures.form lent.ensures.sink g.R.Rack a b c.tree.new.out refl c.in_default.ensures.part in
     subst (λ k. WantedFor g.R.Rack Tree (g.K.Sink.taken c.args.sink.now) (g.K.Sink.taken k) a b) (search rules) wanted
 
 pub returns-in_default-told-clause-answered : goal.returns-in_default-told-clause-answered
 returns-in_default-told-clause-answered g c =
     let a = c.args.array.now in
     let b = record a { volume = c.tree.new.self } in
-    let rule = loose_tree (TookEntries g.K.Sink.taken) (TookEntriesPart g.K.Sink.taken) (λ (s : Lines g.row.K.Denot). g.K.Sink.faults s.sink.now) c.new-entries.result c.tree.new.out
+    let rule = loose_tree (TookEntries g.K.Sink) (TookEntriesPart g.K.Sink) (λ (s : Lines g.row.K.Denot). g.K.Sink.faults s.sink.now) c.new-entries.result c.tree.new.out
     (λ reply. StepsTo any_phase any_phase g.R.Rack a.volume Tree reply c.tree.new.self) c.in-Ok.told c.in_default-told.not-Is c.in-Ok.ensures.steps in
     let ok = subst (λ k. OnOk c.send.result (Told (Took (reply_line NotSettled)) (g.K.Sink.taken k) (g.K.Sink.taken c.send.new.sink))) (search (rules, rule.0)) c.send.ensures.ok in
     answered g.R.Rack Tree NotSettled _ _ a b c.send.result (steps_of g.R.Rack a b Tree NotSettled tt refl rule.1) ok
@@ -108,7 +108,7 @@ pub returns-in_default-told-clause-part : goal.returns-in_default-told-clause-pa
 returns-in_default-told-clause-part g c is =
     let a = c.args.array.now in
     let b = record a { volume = c.tree.new.self } in
-    let rule = loose_tree (TookEntries g.K.Sink.taken) (TookEntriesPart g.K.Sink.taken) (λ (s : Lines g.row.K.Denot). g.K.Sink.faults s.sink.now) c.new-entries.result c.tree.new.out
+    let rule = loose_tree (TookEntries g.K.Sink) (TookEntriesPart g.K.Sink) (λ (s : Lines g.row.K.Denot). g.K.Sink.faults s.sink.now) c.new-entries.result c.tree.new.out
     (λ reply. StepsTo any_phase any_phase g.R.Rack a.volume Tree reply c.tree.new.self) c.in-Ok.told c.in_default-told.not-Is c.in-Ok.ensures.steps in
     let err = subst (λ k. OnErr c.send.result (Told (TookPart (reply_line NotSettled)) (g.K.Sink.taken k) (g.K.Sink.taken c.send.new.sink))) (search (rules, rule.0)) c.send.ensures.part in
     at_err c.send.result _ is (answered_part g.R.Rack Tree NotSettled _ _ a b c.send.result (weaker_steps g.R.Rack a b Tree NotSettled (steps_of g.R.Rack a b Tree NotSettled tt refl rule.1)) err)
@@ -118,7 +118,7 @@ returns-in_default-answer g c =
     let a = c.args.array.now in
     let b = record a { volume = c.tree.new.self } in
     let has = has_reply c.in-Is.answer c.in_default-answer.not-Given c.in_default-answer.not-Cut c.in_default-answer.not-SinkFault in
-    let rule = tree_nothing (TookEntries g.K.Sink.taken) (TookEntriesPart g.K.Sink.taken) (λ (s : Lines g.row.K.Denot). g.K.Sink.faults s.sink.now) c.new-entries.result c.tree.new.out
+    let rule = tree_nothing (TookEntries g.K.Sink) (TookEntriesPart g.K.Sink) (λ (s : Lines g.row.K.Denot). g.K.Sink.faults s.sink.now) c.new-entries.result c.tree.new.out
     (λ reply. StepsTo any_phase any_phase g.R.Rack a.volume Tree reply c.tree.new.self) c.in-Is.answer has (rw c.in-Is.is at c.in-Ok.ensures.steps) in
     let steps = steps_of g.R.Rack a b Tree has.reply tt refl rule.1 in
     let ok = subst (λ k. OnOk c.send_nothing.result (Told (Took (reply_line has.reply)) (g.K.Sink.taken k) (g.K.Sink.taken c.send_nothing.new.sink))) (search (rules, rule.0)) (c.send_nothing.ensures.ok has.reply has.is) in

@@ -39,7 +39,7 @@ pub returns-in-Ok : goal.returns-in-Ok
 returns-in-Ok g c =
     let old = c.args.volume.now in
     let has = has_reply c.cat.result c.in_default.not-Given c.in_default.not-Cut c.in_default.not-SinkFault in
-    let rule = cat_nothing (TookRaw g.K.Sink.taken) (TookRawPart g.K.Sink.taken) (λ (s : Raw g.row.K.Denot). g.K.Sink.faults s.sink.now) c.new-bytes.result c.cat.new.out
+    let rule = cat_nothing (TookRaw g.K.Sink) (TookRawPart g.K.Sink) (λ (s : Raw g.row.K.Denot). g.K.Sink.faults s.sink.now) c.new-bytes.result c.cat.new.out
     (shape_of old).l (λ reply. StepsBy any_phase any_phase g.R.Rack (touched_by (phase_of any_phase old) (given_of c.cat.new.self)) old (Cat c.args.path.now) reply c.cat.new.self)
     (λ reply. StepsTo any_phase any_phase g.R.Rack old (Cat c.args.path.now) reply c.cat.new.self) c.cat.result has c.cat.ensures.steps in
     record {
@@ -54,7 +54,7 @@ pub returns-in-Err : goal.returns-in-Err
 returns-in-Err g c =
     let old = c.args.volume.now in
     let has = has_reply c.cat.result c.in_default.not-Given c.in_default.not-Cut c.in_default.not-SinkFault in
-    let rule = cat_nothing (TookRaw g.K.Sink.taken) (TookRawPart g.K.Sink.taken) (λ (s : Raw g.row.K.Denot). g.K.Sink.faults s.sink.now) c.new-bytes.result c.cat.new.out
+    let rule = cat_nothing (TookRaw g.K.Sink) (TookRawPart g.K.Sink) (λ (s : Raw g.row.K.Denot). g.K.Sink.faults s.sink.now) c.new-bytes.result c.cat.new.out
     (shape_of old).l (λ reply. StepsBy any_phase any_phase g.R.Rack (touched_by (phase_of any_phase old) (given_of c.cat.new.self)) old (Cat c.args.path.now) reply c.cat.new.self)
     (λ reply. StepsTo any_phase any_phase g.R.Rack old (Cat c.args.path.now) reply c.cat.new.self) c.cat.result has c.cat.ensures.steps in
     record {

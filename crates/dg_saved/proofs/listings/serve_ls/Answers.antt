@@ -57,7 +57,7 @@ pub returns-in-Ok-write_nothing : goal.returns-in-Ok-write_nothing
 returns-in-Ok-write_nothing g c =
     let old = c.args.volume.now in
     let has = has_reply c.ls.result c.in_default.not-Given c.in_default.not-Cut c.in_default.not-SinkFault in
-    let rule = ls_nothing (TookEntries g.K.Sink.taken) (TookEntriesPart g.K.Sink.taken) (λ (s : Lines g.row.K.Denot). g.K.Sink.faults s.sink.now) c.new-entries.result c.ls.new.out
+    let rule = ls_nothing (TookEntries g.K.Sink) (TookEntriesPart g.K.Sink) (λ (s : Lines g.row.K.Denot). g.K.Sink.faults s.sink.now) c.new-entries.result c.ls.new.out
     (λ reply. StepsTo any_phase any_phase g.R.Rack old (Ls c.args.path.now) reply c.ls.new.self) c.ls.result has c.ls.ensures.steps in
     record {
       leaves = search rules;
@@ -71,7 +71,7 @@ pub returns-in-Err-write_nothing : goal.returns-in-Err-write_nothing
 returns-in-Err-write_nothing g c =
     let old = c.args.volume.now in
     let has = has_reply c.ls.result c.in_default.not-Given c.in_default.not-Cut c.in_default.not-SinkFault in
-    let rule = ls_nothing (TookEntries g.K.Sink.taken) (TookEntriesPart g.K.Sink.taken) (λ (s : Lines g.row.K.Denot). g.K.Sink.faults s.sink.now) c.new-entries.result c.ls.new.out
+    let rule = ls_nothing (TookEntries g.K.Sink) (TookEntriesPart g.K.Sink) (λ (s : Lines g.row.K.Denot). g.K.Sink.faults s.sink.now) c.new-entries.result c.ls.new.out
     (λ reply. StepsTo any_phase any_phase g.R.Rack old (Ls c.args.path.now) reply c.ls.new.self) c.ls.result has c.ls.ensures.steps in
     record {
       leaves = search rules;

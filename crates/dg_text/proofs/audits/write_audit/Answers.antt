@@ -4,6 +4,7 @@ use Rattle.std.specs.Fmt.{decimal}
 use Rattle.std.proofs.lemmas.Result.{on_ok_weaker, on_err_weaker}
 use Rattle.dg_text.specs.Replies.{findings_text}
 use Rattle.dg_text.specs.ToldSteps.{on_err}
+use Rattle.dg_text.proofs.CallSums.{calls_ended, calls_unended}
 use Rattle.dg_text.proofs.FileLines.{took_ended, took_part_ended, took_part_unended}
 use Rattle.dg_text.proofs.audits.write_audit.Goals as goal
 
@@ -23,3 +24,11 @@ returns-clause-err g c =
     on_err_weaker c.write_number.result
     (λ last. took_part_ended (findings_text c.args.findings.now) (codes "end ") (length c.args.findings.now) (length c.args.findings.now) refl _ _ _ c.in_ok-write_findings.ensures.ok last)
     c.write_number.ensures.err
+
+pub returns-in_err-write_findings-clause-calls : goal.returns-in_err-write_findings-clause-calls
+returns-in_err-write_findings-clause-calls g c =
+    calls_unended g.K.Sink.whole g.K.Sink.calls (findings_text c.args.findings.now) (codes "end ") (decimal (length c.args.findings.now)) (length c.args.findings.now) _ _ c.in_err-write_findings.ensures.calls
+
+pub returns-clause-calls : goal.returns-clause-calls
+returns-clause-calls g c =
+    calls_ended g.K.Sink.whole g.K.Sink.calls (findings_text c.args.findings.now) (codes "end ") (length c.args.findings.now) (length c.args.findings.now) (length c.args.findings.now) _ _ _ refl c.in_ok-write_findings.ensures.calls c.write_number.ensures.calls

@@ -1,6 +1,8 @@
-use Rattle.std.proofs.Common.{◌∙◌, ◌≡◌, ℕ, List}
+use Rattle.std.proofs.Common.{◌∙◌, ◌≡◌, ℕ, List, ◌+◌, ap, length}
 use Rattle.dg_text.specs.Listings.{line_in}
 use Rattle.dg_text.specs.ToldSteps.{on_err}
+use Rattle.dg_text.specs.LineCalls.{entry_calls, pieces}
+use Rattle.dg_text.proofs.CallSums.{calls_more, calls_within}
 use Rattle.dg_text.proofs.FileLines.{took_line_more, took_part_of_lines}
 use Rattle.dg_text.proofs.listings.write_entries.Goals as goal
 use Rattle.dg_text.specs.declared.listings.Form.{Form}
@@ -27,5 +29,19 @@ loop-entry-preserved g c =
     record {
       told = took_line_more (line_in c.args.form) c.args.entries.now c.loop-entry.entry-index entry _ c.loop-entry-test.true c.entry-item.is same
           _ _ _ c.loop-entry.invariant.told c.in_ok-write_entry_line.ensures.ok;
+      calls = calls_more g.K.Sink.whole g.K.Sink.calls (line_in c.args.form) entry_calls c.args.entries.now c.loop-entry.entry-index entry _ _ _ _ _ c.loop-entry-test.true c.entry-item.is same
+          (ap (λ (name : List ℕ). pieces 255 (length name)) c.name.ensures) c.loop-entry.invariant.calls c.in_ok-write_entry_line.ensures.calls;
       kept = c.in_ok-write_entry_line.ensures.cause.kept ∙ c.loop-entry.invariant.kept;
     }
+
+pub returns-in_err-write_entry_line-clause-calls : goal.returns-in_err-write_entry_line-clause-calls
+returns-in_err-write_entry_line-clause-calls g c =
+    let entry = c.entry-item.result in
+    let same = own_line c.args.form entry c.depth.result c.inode.result c.kind.result c.size.result c.name.result.now c.depth.ensures c.inode.ensures c.kind.ensures c.size.ensures c.name.ensures in
+    calls_within g.K.Sink.whole g.K.Sink.calls (line_in c.args.form) entry_calls c.args.entries.now (c.loop-entry.entry-index + 1) _ _
+    (calls_more g.K.Sink.whole g.K.Sink.calls (line_in c.args.form) entry_calls c.args.entries.now c.loop-entry.entry-index entry _ _ _ _ _ c.loop-entry-test.true c.entry-item.is same
+    (ap (λ (name : List ℕ). pieces 255 (length name)) c.name.ensures) c.loop-entry.invariant.calls c.in_err-write_entry_line.ensures.calls)
+
+pub returns-clause-calls : goal.returns-clause-calls
+returns-clause-calls g c =
+    calls_within g.K.Sink.whole g.K.Sink.calls (line_in c.args.form) entry_calls c.args.entries.now c.loop-entry.entry-index _ _ c.loop-entry.invariant.calls

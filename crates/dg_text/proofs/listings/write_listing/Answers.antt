@@ -1,8 +1,11 @@
 use Rattle.std.proofs.Common.{refl, length}
 use Rattle.std.specs.Fmt.{decimal}
+use Rattle.std.specs.List.{sum_by}
 use Rattle.std.proofs.lemmas.Result.{on_ok_weaker, on_err_weaker}
 use Rattle.dg_text.specs.Listings.{listing_text}
+use Rattle.dg_text.specs.LineCalls.{entry_calls}
 use Rattle.dg_text.specs.ToldSteps.{on_err}
+use Rattle.dg_text.proofs.CallSums.{calls_ended, calls_unended}
 use Rattle.dg_text.proofs.FileLines.{took_ended, took_part_ended, took_part_unended}
 use Rattle.dg_text.proofs.listings.write_listing.Goals as goal
 
@@ -22,3 +25,11 @@ returns-clause-err g c =
     on_err_weaker c.write_number.result
     (λ last. took_part_ended (listing_text c.args.form c.args.entries.now) c.args.word.now (length c.args.entries.now) (length c.args.entries.now) refl _ _ _ c.in_ok-write_entries.ensures.ok last)
     c.write_number.ensures.err
+
+pub returns-in_err-write_entries-clause-calls : goal.returns-in_err-write_entries-clause-calls
+returns-in_err-write_entries-clause-calls g c =
+    calls_unended g.K.Sink.whole g.K.Sink.calls (listing_text c.args.form c.args.entries.now) c.args.word.now (decimal (length c.args.entries.now)) (sum_by entry_calls c.args.entries.now) _ _ c.in_err-write_entries.ensures.calls
+
+pub returns-clause-calls : goal.returns-clause-calls
+returns-clause-calls g c =
+    calls_ended g.K.Sink.whole g.K.Sink.calls (listing_text c.args.form c.args.entries.now) c.args.word.now (sum_by entry_calls c.args.entries.now) (length c.args.entries.now) (length c.args.entries.now) _ _ _ refl c.in_ok-write_entries.ensures.calls c.write_number.ensures.calls

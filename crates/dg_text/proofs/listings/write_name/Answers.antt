@@ -1,24 +1,62 @@
-use Rattle.std.proofs.Common.{List, ℕ, get_or, refl, subst, ◌≡◌, ◌∙◌, ap, take, arith}
-use Rattle.std.specs.List.{flat_map}
-use Rattle.std.proofs.lemmas.List.{take_all}
-use Rattle.dg_io.specs.Told.{Told, Took, TookPart}
-use Rattle.dg_text.specs.Lines.{spelled_byte}
+use Rattle.std.proofs.Common.{◌≡◌, ◌∙◌, ◌+◌, ◌-◌, ◌++◌, ℕ, List, ap, append_assoc, arith, drop, length, take}
+use Rattle.std.specs.Prelude.{codes, slice_range}
+use Rattle.std.proofs.lemmas.List.{length-drop, length-take}
+use Rattle.std.proofs.lemmas.List.Folds.{drop_split}
+use Rattle.std.proofs.lemmas.Result.{on_err_weaker, on_ok_weaker}
+use Rattle.dg_text.specs.Lines.{path_word}
+use Rattle.dg_text.proofs.PathWords.{path_both}
 use Rattle.dg_text.specs.ToldSteps.{on_err}
-use Rattle.dg_text.proofs.FileLines.{all_bytes, item_is, took_part_of_lines}
+use Rattle.dg_text.proofs.Pieces.{goes_last, goes_last_calls, goes_last_part, goes_on, goes_part, goes_part_calls, to_end}
 use Rattle.dg_text.proofs.listings.write_name.Goals as goal
 
-pub returns-in_err-write_byte-clause-err : goal.returns-in_err-write_byte-clause-err
-returns-in_err-write_byte-clause-err g c =
-    let i = c.loop-byte.byte-index in
-    let byte = get_or c.args.name.now i 0 in
-    let P : List ℕ → Type 0 = λ l. Told (TookPart l) (g.K.Sink.taken c.args.sink.now) (g.K.Sink.taken c.write_byte.new.sink) in
+pub returns-in_err-write_all-clause-err : goal.returns-in_err-write_all-clause-err
+returns-in_err-write_all-clause-err g c =
+    let bytes = c.args.name.now in
+    let at = c.loop-at.at in
     on_err c.from_residual.result
-    (subst P (all_bytes c.args.name.now)
-    (took_part_of_lines spelled_byte c.args.name.now i byte (spelled_byte byte) c.loop-byte-test.true (item_is c.args.name.now i 0 c.loop-byte-test.true) refl
-    _ _ _ c.loop-byte.invariant.told c.in_err-write_byte.ensures.err))
+    (goes_part g.K.Sink path_word path_both c.args.most _ _ c.args.sink.now (take c.loop-at.end c.loop-at.line) (drop at bytes) (slice_range bytes at (at + c.args.most)) (drop (at + c.args.most) bytes)
+    _ _ _ (drop_split bytes at (at + c.args.most) (omega arith)) c.put_name-full.ensures.text c.loop-at.invariant.goes c.in_err-write_all.ensures.err)
+
+pub returns-in_err-write_all-clause-calls : goal.returns-in_err-write_all-clause-calls
+returns-in_err-write_all-clause-calls g c =
+    let bytes = c.args.name.now in
+    let at = c.loop-at.at in
+    goes_part_calls g.K.Sink path_word path_both c.args.most _ _ c.args.sink.now (take c.loop-at.end c.loop-at.line) (drop at bytes) (slice_range bytes at (at + c.args.most)) (drop (at + c.args.most) bytes)
+    _ _ _ (drop_split bytes at (at + c.args.most) (omega arith)) c.put_name-full.ensures.text c.loop-at.invariant.goes c.in_err-write_all.ensures.calls
+
+pub loop-at-preserved : goal.loop-at-preserved
+loop-at-preserved g c =
+    let bytes = c.args.name.now in
+    let at = c.loop-at.at in
+    let rest = length-drop at bytes in
+    let back = length-drop (at + c.args.most) bytes in
+    let full : length (slice_range bytes at (at + c.args.most)) ≡ c.args.most = length-take (at + c.args.most - at) (drop at bytes) ∙ omega (arith, rest, c.loop-at-test.true) in
+    record {
+      within = omega (arith, c.loop-at-test.true);
+      room = omega (arith, c.loop-at.invariant.room, c.put_name-full.auto.line);
+      goes = goes_on g.K.Sink path_word path_both c.args.most _ _ c.args.sink.now (take c.loop-at.end c.loop-at.line) (drop at bytes) (slice_range bytes at (at + c.args.most)) (drop (at + c.args.most) bytes)
+          _ _ _ c.requires.some (drop_split bytes at (at + c.args.most) (omega arith)) full (omega (arith, back, c.loop-at-test.true)) c.put_name-full.ensures.text
+          c.loop-at.invariant.goes c.in_ok-write_all.ensures.ok c.in_ok-write_all.ensures.calls;
+      kept = c.in_ok-write_all.ensures.cause.kept ∙ c.loop-at.invariant.kept;
+    }
 
 pub returns-clause-ok : goal.returns-clause-ok
 returns-clause-ok g c =
-    let P : List ℕ → Type 0 = λ l. Told (Took l) (g.K.Sink.taken c.args.sink.now) (g.K.Sink.taken c.loop-byte.sink) in
-    let whole : flat_map spelled_byte (take c.loop-byte.byte-index c.args.name.now) ≡ flat_map spelled_byte c.args.name.now = ap (λ (l : List ℕ). flat_map spelled_byte l) (take_all c.loop-byte.byte-index c.args.name.now (omega (arith, c.loop-byte-test.false))) in
-    subst P (whole ∙ all_bytes c.args.name.now) c.loop-byte.invariant.told
+    let front = take c.loop-at.end c.loop-at.line in
+    let rest = drop c.loop-at.at c.args.name.now in
+    let is = c.put-all.ensures.text ∙ ap (λ (l : List ℕ). l ++ codes "\n") (c.put_name-named.ensures.text ∙ ap (λ (l : List ℕ). front ++ path_word l) (to_end c.loop-at.at c.args.name.now)) ∙ append_assoc front (path_word rest) (codes "\n") in
+    on_ok_weaker c.write_all-2.result (λ told. goes_last g.K.Sink path_word path_both c.args.most _ _ c.args.sink.now front rest _ _ _ is c.loop-at.invariant.goes told) c.write_all-2.ensures.ok
+
+pub returns-clause-err : goal.returns-clause-err
+returns-clause-err g c =
+    let front = take c.loop-at.end c.loop-at.line in
+    let rest = drop c.loop-at.at c.args.name.now in
+    let is = c.put-all.ensures.text ∙ ap (λ (l : List ℕ). l ++ codes "\n") (c.put_name-named.ensures.text ∙ ap (λ (l : List ℕ). front ++ path_word l) (to_end c.loop-at.at c.args.name.now)) ∙ append_assoc front (path_word rest) (codes "\n") in
+    on_err_weaker c.write_all-2.result (λ told. goes_last_part g.K.Sink path_word path_both c.args.most _ _ c.args.sink.now front rest _ _ _ is c.loop-at.invariant.goes told) c.write_all-2.ensures.err
+
+pub returns-clause-calls : goal.returns-clause-calls
+returns-clause-calls g c =
+    let front = take c.loop-at.end c.loop-at.line in
+    let rest = drop c.loop-at.at c.args.name.now in
+    let is = c.put-all.ensures.text ∙ ap (λ (l : List ℕ). l ++ codes "\n") (c.put_name-named.ensures.text ∙ ap (λ (l : List ℕ). front ++ path_word l) (to_end c.loop-at.at c.args.name.now)) ∙ append_assoc front (path_word rest) (codes "\n") in
+    goes_last_calls g.K.Sink path_word path_both c.args.most _ _ c.args.sink.now front rest _ _ _ is c.loop-at.invariant.goes c.write_all-2.ensures.calls

@@ -1,23 +1,62 @@
-use Rattle.std.proofs.Common.{List, ℕ, get_or, refl, subst, ◌≡◌, ◌∙◌, ap, take, arith}
-use Rattle.std.specs.List.{flat_map}
-use Rattle.std.proofs.lemmas.List.{take_all}
-use Rattle.dg_io.specs.Told.{Told, Took, TookPart}
+use Rattle.std.proofs.Common.{◌≡◌, ◌∙◌, ◌+◌, ◌-◌, ◌++◌, ℕ, List, ap, append_assoc, arith, drop, length, take}
+use Rattle.std.specs.Prelude.{codes, slice_range}
+use Rattle.std.proofs.lemmas.List.{length-drop, length-take}
+use Rattle.std.proofs.lemmas.List.Folds.{drop_split}
+use Rattle.std.proofs.lemmas.Result.{on_err_weaker, on_ok_weaker}
+use Rattle.hex.specs.Hex.{encode_lower}
+use Rattle.dg_text.proofs.HexWords.{encode_both}
 use Rattle.dg_text.specs.ToldSteps.{on_err}
-use Rattle.dg_text.proofs.FileLines.{all_digits, digits_of, item_is, took_part_of_lines}
+use Rattle.dg_text.proofs.Pieces.{goes_last, goes_last_calls, goes_last_part, goes_on, goes_part, goes_part_calls, to_end}
 use Rattle.dg_text.proofs.replies.write_digits.Goals as goal
 
-pub returns-in_err-write_pair-clause-err : goal.returns-in_err-write_pair-clause-err
-returns-in_err-write_pair-clause-err g c =
-    let i = c.loop-byte.byte-index in
-    let byte = get_or c.args.bytes.now i 0 in
-    let P : List ℕ → Type 0 = λ l. Told (TookPart l) (g.K.Sink.taken c.args.sink.now) (g.K.Sink.taken c.write_pair.new.sink) in
+pub returns-in_err-write_all-clause-err : goal.returns-in_err-write_all-clause-err
+returns-in_err-write_all-clause-err g c =
+    let bytes = c.args.bytes.now in
+    let at = c.loop-at.at in
     on_err c.from_residual.result
-    (subst P (all_digits c.args.bytes.now)
-    (took_part_of_lines digits_of c.args.bytes.now i byte (digits_of byte) c.loop-byte-test.true (item_is c.args.bytes.now i 0 c.loop-byte-test.true) refl
-    _ _ _ c.loop-byte.invariant.told c.in_err-write_pair.ensures.err))
+    (goes_part g.K.Sink encode_lower encode_both 4096 _ _ c.args.sink.now (take c.loop-at.end c.loop-at.line) (drop at bytes) (slice_range bytes at (at + 4096)) (drop (at + 4096) bytes)
+    _ _ _ (drop_split bytes at (at + 4096) (omega arith)) c.put_hex-full.ensures.text c.loop-at.invariant.goes c.in_err-write_all.ensures.err)
+
+pub returns-in_err-write_all-clause-calls : goal.returns-in_err-write_all-clause-calls
+returns-in_err-write_all-clause-calls g c =
+    let bytes = c.args.bytes.now in
+    let at = c.loop-at.at in
+    goes_part_calls g.K.Sink encode_lower encode_both 4096 _ _ c.args.sink.now (take c.loop-at.end c.loop-at.line) (drop at bytes) (slice_range bytes at (at + 4096)) (drop (at + 4096) bytes)
+    _ _ _ (drop_split bytes at (at + 4096) (omega arith)) c.put_hex-full.ensures.text c.loop-at.invariant.goes c.in_err-write_all.ensures.calls
+
+pub loop-at-preserved : goal.loop-at-preserved
+loop-at-preserved g c =
+    let bytes = c.args.bytes.now in
+    let at = c.loop-at.at in
+    let rest = length-drop at bytes in
+    let back = length-drop (at + 4096) bytes in
+    let full : length (slice_range bytes at (at + 4096)) ≡ 4096 = length-take (at + 4096 - at) (drop at bytes) ∙ omega (arith, rest, c.loop-at-test.true) in
+    record {
+      within = omega (arith, c.loop-at-test.true);
+      room = omega (arith, c.loop-at.invariant.room, c.put_hex-full.auto.line);
+      goes = goes_on g.K.Sink encode_lower encode_both 4096 _ _ c.args.sink.now (take c.loop-at.end c.loop-at.line) (drop at bytes) (slice_range bytes at (at + 4096)) (drop (at + 4096) bytes)
+          _ _ _ (omega arith) (drop_split bytes at (at + 4096) (omega arith)) full (omega (arith, back, c.loop-at-test.true)) c.put_hex-full.ensures.text
+          c.loop-at.invariant.goes c.in_ok-write_all.ensures.ok c.in_ok-write_all.ensures.calls;
+      kept = c.in_ok-write_all.ensures.cause.kept ∙ c.loop-at.invariant.kept;
+    }
 
 pub returns-clause-ok : goal.returns-clause-ok
 returns-clause-ok g c =
-    let P : List ℕ → Type 0 = λ l. Told (Took l) (g.K.Sink.taken c.args.sink.now) (g.K.Sink.taken c.loop-byte.sink) in
-    let whole : flat_map digits_of (take c.loop-byte.byte-index c.args.bytes.now) ≡ flat_map digits_of c.args.bytes.now = ap (λ (l : List ℕ). flat_map digits_of l) (take_all c.loop-byte.byte-index c.args.bytes.now (omega (arith, c.loop-byte-test.false))) in
-    subst P (whole ∙ all_digits c.args.bytes.now) c.loop-byte.invariant.told
+    let front = take c.loop-at.end c.loop-at.line in
+    let rest = drop c.loop-at.at c.args.bytes.now in
+    let is = c.put-all.ensures.text ∙ ap (λ (l : List ℕ). l ++ codes "\n") (c.put_hex-digits.ensures.text ∙ ap (λ (l : List ℕ). front ++ encode_lower l) (to_end c.loop-at.at c.args.bytes.now)) ∙ append_assoc front (encode_lower rest) (codes "\n") in
+    on_ok_weaker c.write_all-2.result (λ told. goes_last g.K.Sink encode_lower encode_both 4096 _ _ c.args.sink.now front rest _ _ _ is c.loop-at.invariant.goes told) c.write_all-2.ensures.ok
+
+pub returns-clause-err : goal.returns-clause-err
+returns-clause-err g c =
+    let front = take c.loop-at.end c.loop-at.line in
+    let rest = drop c.loop-at.at c.args.bytes.now in
+    let is = c.put-all.ensures.text ∙ ap (λ (l : List ℕ). l ++ codes "\n") (c.put_hex-digits.ensures.text ∙ ap (λ (l : List ℕ). front ++ encode_lower l) (to_end c.loop-at.at c.args.bytes.now)) ∙ append_assoc front (encode_lower rest) (codes "\n") in
+    on_err_weaker c.write_all-2.result (λ told. goes_last_part g.K.Sink encode_lower encode_both 4096 _ _ c.args.sink.now front rest _ _ _ is c.loop-at.invariant.goes told) c.write_all-2.ensures.err
+
+pub returns-clause-calls : goal.returns-clause-calls
+returns-clause-calls g c =
+    let front = take c.loop-at.end c.loop-at.line in
+    let rest = drop c.loop-at.at c.args.bytes.now in
+    let is = c.put-all.ensures.text ∙ ap (λ (l : List ℕ). l ++ codes "\n") (c.put_hex-digits.ensures.text ∙ ap (λ (l : List ℕ). front ++ encode_lower l) (to_end c.loop-at.at c.args.bytes.now)) ∙ append_assoc front (encode_lower rest) (codes "\n") in
+    goes_last_calls g.K.Sink encode_lower encode_both 4096 _ _ c.args.sink.now front rest _ _ _ is c.loop-at.invariant.goes c.write_all-2.ensures.calls

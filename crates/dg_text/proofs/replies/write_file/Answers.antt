@@ -1,9 +1,11 @@
 use Rattle.std.proofs.Common.{length}
-use Rattle.std.specs.List.{concat}
+use Rattle.std.specs.List.{concat, sum_by}
 use Rattle.std.specs.Fmt.{decimal}
 use Rattle.std.proofs.lemmas.Result.{on_ok_weaker, on_err_weaker}
 use Rattle.dg_text.specs.Replies.{file_text}
+use Rattle.dg_text.specs.LineCalls.{bytes_calls}
 use Rattle.dg_text.specs.ToldSteps.{on_err}
+use Rattle.dg_text.proofs.CallSums.{calls_ended, calls_unended}
 use Rattle.dg_text.proofs.FileLines.{took_ended, took_part_ended, took_part_unended}
 use Rattle.dg_text.proofs.replies.write_file.Goals as goal
 
@@ -23,3 +25,11 @@ returns-clause-err g c =
     on_err_weaker c.write_number.result
     (λ last. took_part_ended (file_text c.args.lines.now) c.args.word.now (length (concat c.args.lines.now)) c.bytes_in.result c.bytes_in.ensures _ _ _ c.in_ok-write_lines.ensures.ok last)
     c.write_number.ensures.err
+
+pub returns-in_err-write_lines-clause-calls : goal.returns-in_err-write_lines-clause-calls
+returns-in_err-write_lines-clause-calls g c =
+    calls_unended g.K.Sink.whole g.K.Sink.calls (file_text c.args.lines.now) c.args.word.now (decimal (length (concat c.args.lines.now))) (sum_by bytes_calls c.args.lines.now) _ _ c.in_err-write_lines.ensures.calls
+
+pub returns-clause-calls : goal.returns-clause-calls
+returns-clause-calls g c =
+    calls_ended g.K.Sink.whole g.K.Sink.calls (file_text c.args.lines.now) c.args.word.now (sum_by bytes_calls c.args.lines.now) (length (concat c.args.lines.now)) c.bytes_in.result _ _ _ c.bytes_in.ensures c.in_ok-write_lines.ensures.calls c.write_number.ensures.calls

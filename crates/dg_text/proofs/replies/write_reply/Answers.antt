@@ -2,7 +2,7 @@ use Rattle.std.proofs.Common.{ap, sym, ◌∙◌, ℕ, List}
 use Rattle.dg_model.specs.declared.replies.Reply.TheVariants.{Cut, Given, Listed as ListedReply, ListedCut, LostFiles, LostFilesCut, Nodes, NodesCut}
 use Rattle.dg_model.specs.Paths.{PathOf}
 use Rattle.dg_text.specs.Replies.{reply_line}
-use Rattle.dg_text.proofs.ReplyLines.{copied_line, regrouped_line, took_as, took_part_as, tended_line}
+use Rattle.dg_text.proofs.ReplyLines.{calls_for, copied_line, regrouped_line, took_as, took_part_as, tended_line}
 use Rattle.dg_text.proofs.replies.write_reply.Goals as goal
 use Rattle.ufs_model.specs.Listings.{Listed}
 
@@ -77,3 +77,27 @@ returns-in-LostFilesCut-clause-ok g c = took_as c.write_lost-in-LostFilesCut.res
 
 pub returns-in-LostFilesCut-clause-err : goal.returns-in-LostFilesCut-clause-err
 returns-in-LostFilesCut-clause-err g c = took_part_as c.write_lost-in-LostFilesCut.result _ (reply_line c.args.reply.now) _ _ (ap (λ (x : List PathOf). reply_line (LostFilesCut x)) c.as_slice-in-LostFilesCut.ensures ∙ ap reply_line (sym c.in-LostFilesCut.is)) c.write_lost-in-LostFilesCut.ensures.err
+
+pub returns-in-Given-clause-calls : goal.returns-in-Given-clause-calls
+returns-in-Given-clause-calls g c =
+    calls_for g.K.Sink (Given c.as_slice-in-Given.result.now) c.args.reply.now _ _ (ap (λ (x : List (List ℕ)). Given x) c.as_slice-in-Given.ensures ∙ sym c.in-Given.is) c.write_file.ensures.calls
+
+pub returns-in-Cut-clause-calls : goal.returns-in-Cut-clause-calls
+returns-in-Cut-clause-calls g c =
+    calls_for g.K.Sink (Cut c.as_slice-in-Cut.result.now) c.args.reply.now _ _ (ap (λ (x : List (List ℕ)). Cut x) c.as_slice-in-Cut.ensures ∙ sym c.in-Cut.is) c.write_file-in-Cut.ensures.calls
+
+pub returns-in-Listed-clause-calls : goal.returns-in-Listed-clause-calls
+returns-in-Listed-clause-calls g c =
+    calls_for g.K.Sink (ListedReply c.as_slice-in-Listed.result.now) c.args.reply.now _ _ (ap (λ (x : List Listed). ListedReply x) c.as_slice-in-Listed.ensures ∙ sym c.in-Listed.is) c.write_listing.ensures.calls
+
+pub returns-in-ListedCut-clause-calls : goal.returns-in-ListedCut-clause-calls
+returns-in-ListedCut-clause-calls g c =
+    calls_for g.K.Sink (ListedCut c.as_slice-in-ListedCut.result.now) c.args.reply.now _ _ (ap (λ (x : List Listed). ListedCut x) c.as_slice-in-ListedCut.ensures ∙ sym c.in-ListedCut.is) c.write_listing-in-ListedCut.ensures.calls
+
+pub returns-in-Nodes-clause-calls : goal.returns-in-Nodes-clause-calls
+returns-in-Nodes-clause-calls g c =
+    calls_for g.K.Sink (Nodes c.as_slice-in-Nodes.result.now) c.args.reply.now _ _ (ap (λ (x : List Listed). Nodes x) c.as_slice-in-Nodes.ensures ∙ sym c.in-Nodes.is) c.write_listing-in-Nodes.ensures.calls
+
+pub returns-in-NodesCut-clause-calls : goal.returns-in-NodesCut-clause-calls
+returns-in-NodesCut-clause-calls g c =
+    calls_for g.K.Sink (NodesCut c.as_slice-in-NodesCut.result.now) c.args.reply.now _ _ (ap (λ (x : List Listed). NodesCut x) c.as_slice-in-NodesCut.ensures ∙ sym c.in-NodesCut.is) c.write_listing-in-NodesCut.ensures.calls

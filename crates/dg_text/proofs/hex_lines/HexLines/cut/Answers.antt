@@ -6,8 +6,8 @@ use Rattle.dg_text.proofs.hex_lines.HexLines.cut.Goals as goal
 
 pub returns-clause-ok : goal.returns-clause-ok
 returns-clause-ok g c =
-    on_ok_weaker c.finish.result (λ told. ends g.K.Sink.taken c.args.self.now c.finish.new.self (last_line (codes "cut ") c.args.n) told) c.finish.ensures.ok
+    on_ok_weaker c.finish.result (λ told. ends g.K.Sink c.args.self.now c.finish.new.self (last_line (codes "cut ") c.args.n) told c.finish.ensures.calls) c.finish.ensures.ok
 
 pub returns-clause-err : goal.returns-clause-err
 returns-clause-err g c =
-    on_err_weaker c.finish.result (λ told. ends_part g.K.Sink.taken c.args.self.now c.finish.new.self (last_line (codes "cut ") c.args.n) told) c.finish.ensures.err
+    on_err_weaker c.finish.result (λ told. ends_part g.K.Sink c.args.self.now c.finish.new.self (last_line (codes "cut ") c.args.n) told c.finish.ensures.calls) c.finish.ensures.err
