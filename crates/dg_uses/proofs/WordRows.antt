@@ -22,13 +22,19 @@ not_spelled (Trace order b k m) is = cc is
 not_spelled (Drill seed files) is = cc is
 not_spelled Audit is = cc is
 
--- no words are no command
-pub no_words : AreNoCommand []
+no_words : AreNoCommand []
 no_words command is = not_spelled command is.written
 
--- and no memory is taken for them
-pub no_memory : TakesMemory [] → ⊥
+no_memory : TakesMemory [] → ⊥
 no_memory takes = cc (takes.written)
+
+-- no words are no command
+pub none_asked : (words : List (List ℕ)) → words ≡ [] → AreNoCommand words
+none_asked words empty = subst (λ (l : List (List ℕ)). AreNoCommand l) (sym empty) no_words
+
+-- and no memory is taken for them
+pub none_taken : (words : List (List ℕ)) → words ≡ [] → TakesMemory words → ⊥
+none_taken words empty takes = no_memory (subst (λ (l : List (List ℕ)). TakesMemory l) empty takes)
 
 -- the usage line was printed
 pub is_usage : (facts : Facts) (status : Status) → EndsUsage facts status → (status ≡ WriteFault → ⊥) → (status ≡ NoMemory → ⊥) → status ≡ Usage
