@@ -40,7 +40,7 @@ GiveFiles = Drills (λ seed files reply cats. given_count seed 0 cats + unavaila
 pub loses_its_homes : LosesHomes → AreSettled → GiveFiles → (tells : ℕ → Type 0) (f : Facts) (seed files : ℕ) → files ≤ 2000 → Prints tells f seed files Took
     → ((q : ℕ) → tells q) → NoneRose f.before.faults f.now.faults → LosesItsHomes seed files f.taken f.given f.bytes
 loses_its_homes homes settles gives tells f seed files few prints told none =
-    let h = prints.1.0 in
+    let h = prints.1 in
     let known : TellsBoundaries tells h.final = λ q below. told q in
     let led = trace_told f.before drill_shape _ h.writes h.written known h.led in
     let on = run_less (λ _. known) h.written (later_events seed files) (h.settled ∷ (h.losses ++ h.cats)) h.final h.on in
@@ -56,5 +56,5 @@ loses_its_homes homes settles gives tells f seed files few prints told none =
           (subst (λ (r : Reply). Run AreTold h.written (later_events seed files) (r ∷ (h.losses ++ h.cats)) h.final) settled on) h.number no_fault;
       all = gives f.before seed files h.geometry h.image h.writes h.losses h.cats h.settled h.written h.final few h.volume led on h.number no_fault;
       output = subst (λ (t : List ℕ). Told (Took t) f.taken f.given)
-          (h.text_is ∙ ap (λ (r : Reply). report_text seed files (written_count h.written.table) r h.cats) settled) prints.1.1;
+          (h.text_is ∙ ap (λ (r : Reply). report_text seed files (written_count h.written.table) r h.cats) settled) prints.2;
     }

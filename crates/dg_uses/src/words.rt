@@ -1,5 +1,5 @@
 // Words that are no command, and a command that reads no input.
-ghost use Rattle.std.specs.Prelude.{◌≡◌, ⊥, IfOk, List, ℕ};
+ghost use Rattle.std.specs.Prelude.{◌≡◌, IfOk, List, ℕ, Some};
 ghost use Rattle.dg_io.specs.Racks.{counts_in};
 ghost use Rattle.dg_io.specs.Sinks.{sure_taken};
 ghost use Rattle.dg_io.specs.Sources.{sure_calls};

@@ -14,4 +14,4 @@ returns g c = λ seed files asks told none done.
     let tells = g.R.Rack.tells s.new.rack in
     let ended = subst (λ (e : Status). EndsDrilled (EndsDrill tells (drill_met met) seed files) met.taken met.given e) done (s.ensures.ends (Drill seed files) asks) in
     loses_its_homes c.drill_loses_its_homes.ensures.unavailable c.drills_give_their_files.ensures.settled c.drills_give_their_files.ensures.given
-    tells (drill_met met) seed files asks.values.1.1 ended (λ q. g.met.R.Rack.tells_told s.new.rack q (told q)) none
+    tells (drill_met met) seed files asks.values.2 ended (λ q. g.met.R.Rack.tells_told s.new.rack q (told q)) none
