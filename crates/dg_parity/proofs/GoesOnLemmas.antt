@@ -3,10 +3,12 @@ use Rattle.std.proofs.Common.{◌≡◌, ◌≢◌, ◌*◌, ◌/◌, ◌%◌, �
 use Rattle.std.specs.Prelude.{Option, None, Some, IsSome, slice_get, ◌&&◌, if◌then◌else◌}
 use Rattle.std.proofs.lemmas.Bool.{and_parts, cases_eq, false≢true}
 use Rattle.dg_io.specs.declared.outside.Rack.{Ghosts}
+use Rattle.dg_parity.specs.ArrayCalls.{LeastOf}
 use Rattle.dg_parity.specs.Arrays.{AreKept, DisksTell, GoesOn, NoneFell, group_at, is_noted, is_served, out_of, serves, told_at, told_of, width_at, width_of}
 use Rattle.dg_parity.specs.Groups.{is_lost, is_out, is_sure}
 use Rattle.dg_parity.specs.Kept.{all_told, bytes_in, made_by}
 use Rattle.dg_parity.specs.Stripes.{member_by}
+use Rattle.dg_parity.specs.Updates.{CallsLeast}
 use Rattle.dg_parity.specs.declared.groups.Group.{Group}
 use Rattle.dg_parity.proofs.ArrayLemmas.{IsCalled, SetsAt, Turns, group-odd, group-own}
 use Rattle.dg_parity.proofs.ArraySteps.{all-told, tells-bytes}
@@ -88,6 +90,9 @@ module _ {S : Type 0} {rack : Ghosts S} {q : ℕ} {old new : List Group} {a b : 
 
   pub was-noted : is_noted (group_at old q) ≡ true → a.noted ≡ true
   was-noted h = sym (ap is_noted (was-at q call.even refl)) ∙ h
+
+  pub least-at : (place count : ℕ) → CallsLeast rack a.disks (is_out a) place count before now → LeastOf rack (group_at old q) place count before now
+  least-at place count call0 = subst (λ (o : Option Group). LeastOf rack o place count before now) (sym (was-at q call.even refl)) call0
 
   -- none of its disks went out
   pub none-fell : NoneFell old new q → (j : ℕ) → is_out a j ≡ false → is_out b j ≡ false

@@ -9,7 +9,7 @@ use Rattle.dg_io.specs.RackWords.{Leaves}
 use Rattle.dg_io.specs.Told.{Told, IsSame, Torn, Patched, patch, StillTold}
 use Rattle.dg_io.specs.declared.outside.Rack.{Ghosts}
 use Rattle.dg_parity.specs.Stripes.{disk_length}
-use Rattle.dg_parity.specs.Groups.{disk_number, is_lost, is_out, length_of, bytes_of, AllTold, AreNumbered, IsNumbered, IsReady, IsLater, IsAlike, IsApart, HasHead, header_in, LeavesGroup}
+use Rattle.dg_parity.specs.Groups.{disk_number, is_out, length_of, bytes_of, AllTold, AreNumbered, IsNumbered, IsReady, IsLater, IsAlike, IsApart, HasHead, header_in, LeavesGroup}
 use Rattle.dg_parity.specs.Headers.{header_bytes}
 use Rattle.dg_parity.specs.declared.groups.Group.{Group}
 use Rattle.dg_parity.proofs.BytesLemmas.{patch-before, patch-length}

@@ -6,6 +6,7 @@ pub mod BlankLemmas
 pub mod BytesLemmas
 pub mod CallLemmas
 pub mod ChiefLemmas
+pub mod ChunkLemmas
 pub mod CountLemmas
 pub mod DiskLemmas
 pub mod EpochLemmas
@@ -36,4 +37,6 @@ pub mod RunLemmas
 pub mod RunSteps
 pub mod SoundLemmas
 pub mod StripeLemmas
+pub mod UpdateLemmas
+pub mod UpdateSteps
 pub mod WriteSteps

@@ -1,11 +1,10 @@
 -- Writes of runs of chunks: what each stripe takes of calls.
-use Rattle.std.proofs.Common.{◌≡◌, ◌≢◌, ℕ, ◌+◌, ◌-◌, ◌*◌, ◌/◌, ◌%◌, ◌<◌, ◌≤◌, ◌⊎◌, inl, inr, Bool, true, false, refl, ap, subst, ◌∙◌, arith}
+use Rattle.std.proofs.Common.{◌≡◌, ◌≢◌, ℕ, ◌+◌, ◌-◌, ◌*◌, ◌/◌, ◌%◌, ◌<◌, ◌≤◌, ◌⊎◌, inl, inr, Bool, true, false, refl, ap, subst, ◌∙◌, arith, add-zero}
 use Rattle.std.specs.Prelude.{◌==◌, if◌then◌else◌}
 use Rattle.std.proofs.lemmas.Bool.{cases_eq, cases_lt, cases_Bool, and_parts}
 use Rattle.std.proofs.lemmas.Bool.Decides.{nat_tests}
 use Rattle.std.proofs.lemmas.Nat.{div-add-mod', mod_below}
 use Rattle.std.proofs.Math.Nat.{mul-add, mul-one, mul-le-mul_left, add-mul, mul-le-mul_right, one-mul}
-use Rattle.std.proofs.Common.{add-zero}
 use Rattle.dg_parity.specs.Runs.{begins, passes_in, reads_at, IsWhole, IsWindow}
 use Rattle.dg_parity.specs.declared.windows.Window.{Window}
 
@@ -16,7 +15,7 @@ pub reads-some : (n b : ℕ) → begins n b ≡ false → reads_at n b ≡ (n + 
 reads-some n b e = ap (λ (k : Bool). if k then 0 else (n + 1) * n) e
 
 -- a stripe that begins behind the first byte, or with it
-whole-low : (n at size q : ℕ) (window : Window) → 3 ≤ n → IsWindow n at size window → (q ≡ 0 → begins n at ≡ true) → at ≤ 512 * ((window.first + q) * (n - 1))
+pub whole-low : (n at size q : ℕ) (window : Window) → 3 ≤ n → IsWindow n at size window → (q ≡ 0 → begins n at ≡ true) → at ≤ 512 * ((window.first + q) * (n - 1))
 whole-low n at size q window least h first =
     let s = n - 1 in
     let c = at / 512 in
@@ -36,7 +35,7 @@ whole-low n at size q window least h first =
     ]
 
 -- a stripe that ends before the last byte, or with it
-whole-high : (n at size q : ℕ) (window : Window) → 3 ≤ n → 0 < size → IsWindow n at size window → q < window.count → (q + 1 ≡ window.count → begins n (at + size) ≡ true)
+pub whole-high : (n at size q : ℕ) (window : Window) → 3 ≤ n → 0 < size → IsWindow n at size window → q < window.count → (q + 1 ≡ window.count → begins n (at + size) ≡ true)
     → 512 * ((window.first + q + 1) * (n - 1)) ≤ at + size
 whole-high n at size q window least some h lt last =
     let s = n - 1 in

@@ -2,9 +2,10 @@
 use Rattle.std.specs.Prelude.{◌≡◌, ◌*◌, ℕ, true, Option, None, Some, slice_get}
 use Rattle.dg_io.specs.declared.outside.Rack.{Ghosts}
 use Rattle.dg_parity.specs.Arrays.{GoesOn, NoneFell, group_at, is_noted}
-use Rattle.dg_parity.specs.Groups.{MostCalls, in_of}
+use Rattle.dg_parity.specs.Groups.{MostCalls, in_of, is_out}
 use Rattle.dg_parity.specs.Kept.{calls_to_mend, calls_to_read, calls_to_write, quiet_calls_to_write}
 use Rattle.dg_parity.specs.Runs.{passes_in}
+use Rattle.dg_parity.specs.Updates.{CallsLeast}
 use Rattle.dg_parity.specs.declared.groups.Group.{Group}
 use Rattle.dg_parity.specs.declared.parity_racks.ParityRack.{ParityRack}
 use Rattle.dg_parity.specs.declared.parity_racks.ParityRack.TheVariants.{Plain, OfGroups}
@@ -28,6 +29,11 @@ quiet_reads_of (Some group) place count = in_of group * passes_in group.disks pl
 abbrev pub quiet_writes_of : Option Group → ℕ → ℕ → ℕ
 quiet_writes_of None place count = 0
 quiet_writes_of (Some group) place count = quiet_calls_to_write group.disks place count
+
+-- and by the lesser of read-modify-write and reconstruct-write in each stripe
+abbrev pub LeastOf : {R : Type 0} → Ghosts R → Option Group → ℕ → ℕ → R → R → Type 0
+LeastOf rack None place count before now = MostCalls rack 0 before now
+LeastOf rack (Some group) place count before now = CallsLeast rack group.disks (is_out group) place count before now
 
 -- and a disk that comes back
 abbrev pub mends_of : Option Group → ℕ
@@ -59,6 +65,13 @@ WritesQuietly rack (OfGroups old) (OfGroups new) q place count =
     is_noted (group_at old.groups q) ≡ true → NoneFell old.groups new.groups q → MostCalls rack (quiet_writes_of (group_at old.groups q) place count) old.rack new.rack
 WritesQuietly rack (OfGroups old) (Plain new) q place count = Unit {0}
 WritesQuietly rack (Plain old) new q place count = Unit {0}
+
+-- and the least that it takes
+abbrev pub WritesLeast : {R : Type 0} → Ghosts R → ParityRack R → ParityRack R → ℕ → ℕ → ℕ → Type 0
+WritesLeast rack (OfGroups old) (OfGroups new) q place count =
+    is_noted (group_at old.groups q) ≡ true → NoneFell old.groups new.groups q → LeastOf rack (group_at old.groups q) place count old.rack new.rack
+WritesLeast rack (OfGroups old) (Plain new) q place count = Unit {0}
+WritesLeast rack (Plain old) new q place count = Unit {0}
 
 -- and a disk of group s that comes back
 abbrev pub MendsBehind : {R : Type 0} → Ghosts R → ParityRack R → ParityRack R → ℕ → Type 0

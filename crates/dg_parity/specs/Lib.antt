@@ -16,3 +16,4 @@ pub mod Reopens
 pub mod Runs
 pub mod Sound
 pub mod Stripes
+pub mod Updates

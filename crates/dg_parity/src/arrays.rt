@@ -101,7 +101,7 @@ impl<R: Rack> Rack for GroupRack<R> {
     ghost use Rattle.dg_io.specs.Kept.{KeepsRest};
     ghost use Rattle.dg_io.specs.RackCalls.{RackCall};
     ghost use Rattle.dg_io.specs.Told.{Told, IsSame, IsZeros, Measures, IsEmpty, Reads, Patched, Torn, FitsIn, Extended, KeepsFront, IsHeader, OldOrNew};
-    ghost use Rattle.dg_parity.specs.ArrayCalls.{quiet_reads_of, quiet_writes_of, reads_of, writes_of};
+    ghost use Rattle.dg_parity.specs.ArrayCalls.{quiet_reads_of, quiet_writes_of, reads_of, writes_of, LeastOf};
     ghost use Rattle.dg_parity.specs.Groups.{MostCalls};
     ghost use Rattle.dg_parity.specs.Arrays.{GoesOn, IsShaped, NoneFell, group_at, is_fallen, is_noted, serves, size_at};
     ghost use Rattle.dg_parity.specs.Arrays.{GroupedMade, grouped_bytes, grouped_counts, grouped_disks, grouped_keeps, grouped_name, grouped_stands, grouped_steady, grouped_tells, grouped_words};
@@ -200,6 +200,8 @@ impl<R: Rack> Rack for GroupRack<R> {
         ensures goes_on { GoesOn R.Rack self.old.groups self.new.groups self.old.rack self.new.rack }
         ensures quiet { OnOk result (is_noted (group_at self.old.groups member) ≡ true → NoneFell self.old.groups self.new.groups member
             → MostCalls R.Rack (quiet_writes_of (group_at self.old.groups member) place (length buf.now)) self.old.rack self.new.rack) }
+        ensures least { OnOk result (is_noted (group_at self.old.groups member) ≡ true → NoneFell self.old.groups self.new.groups member
+            → LeastOf R.Rack (group_at self.old.groups member) place (length buf.now) self.old.rack self.new.rack) }
         ensures alive { OnOk result (serves self.new.groups member ≡ true) }
         ensures fails { OnErr result ((serves self.new.groups member ≡ false) ⊎ (size_at self.old.groups member < place + length buf.now)) }
         ensures calls { MostCalls R.Rack (writes_of (group_at self.old.groups member) place (length buf.now)) self.old.rack self.new.rack }

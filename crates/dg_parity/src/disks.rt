@@ -152,6 +152,7 @@ pub(crate) fn write_disk<R: Rack>(group: &mut Group, rack: &mut R, j: u8, place:
     ensures holds { (has : ℕ → ℕ → ℕ) → AllTold R.Rack group.new rack.new → Holds R.Rack group.old rack.old has
         → Holds R.Rack group.new rack.new (put has j place piece.now) }
     ensures steady { StaysOrFell group.old group.new }
+    ensures idle { is_out group.old j ≡ true → rack.new ≡ rack.old }
     ensures calls { MostCalls R.Rack 1 rack.old rack.new }
 {
     if group.is_out(j) {

@@ -4,7 +4,7 @@
 ghost use Rattle.std.specs.Prelude.{◌≡◌, ◌≢◌, ◌⊎◌, ◌+◌, ◌<◌, ℕ, true, false, length, slice_get, None, Some, IfOk, IfSome, OnErr, OnOk};
 ghost use Rattle.dg_io.specs.DiskAnswers.{DropsDisk, MendsDisk};
 ghost use Rattle.dg_io.specs.Told.{Told, IsSame, IsZeros, Extended, Patched, Reads, Torn};
-ghost use Rattle.dg_parity.specs.ArrayCalls.{mends_of, quiet_reads_of, quiet_writes_of, reads_of, writes_of};
+ghost use Rattle.dg_parity.specs.ArrayCalls.{mends_of, quiet_reads_of, quiet_writes_of, reads_of, writes_of, LeastOf};
 ghost use Rattle.dg_parity.specs.Groups.{MostCalls};
 ghost use Rattle.dg_parity.specs.Arrays.{AreKept, GoesOn, NoneBack, NoneFell, Steps, StepsOn, group_at, is_fallen, is_noted, is_served, is_unmade, serves, size_at, states_in, told_at, width_at};
 
@@ -90,6 +90,8 @@ pub(crate) fn write_at<R: Rack>(
     ensures noted { OnOk result (is_noted (group_at groups.new.items member) ≡ true) }
     ensures quiet { OnOk result (is_noted (group_at groups.old.items member) ≡ true → NoneFell groups.old.items groups.new.items member
         → MostCalls R.Rack (quiet_writes_of (group_at groups.old.items member) place (length piece.now)) rack.old rack.new) }
+    ensures least { OnOk result (is_noted (group_at groups.old.items member) ≡ true → NoneFell groups.old.items groups.new.items member
+        → LeastOf R.Rack (group_at groups.old.items member) place (length piece.now) rack.old rack.new) }
     ensures stays { NoneBack groups.old.items groups.new.items }
     ensures calls { MostCalls R.Rack (writes_of (group_at groups.old.items member) place (length piece.now)) rack.old rack.new }
     ensures alive { OnOk result (serves groups.new.items member ≡ true) }

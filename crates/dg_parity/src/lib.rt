@@ -27,6 +27,7 @@ mod stripes;
 mod sureness;
 mod tallies;
 mod told;
+mod updates;
 mod windows;
 mod xors;
 
@@ -43,3 +44,4 @@ pub use parity_racks::ParityRack;
 pub use returns::mend;
 pub use stripes::{Spot, disk_length, locate};
 pub use told::{read, write};
+pub use updates::calls_by_chunks;

@@ -5,7 +5,8 @@ ghost use Rattle.std.specs.Prelude.{◌≡◌, ◌⊎◌, ◌+◌, ◌*◌, ◌<
 ghost use Rattle.std.specs.Bool.{OnTrue};
 ghost use Rattle.dg_io.specs.Told.{patch};
 ghost use Rattle.dg_parity.specs.Runs.{passes_in, reads_at};
-ghost use Rattle.dg_parity.specs.Groups.{is_lost, in_of, FellOne, IsReady, AllTold, LeavesGroup, StandsFor, MostCalls, KeepsMember, StaysOrFell};
+ghost use Rattle.dg_parity.specs.Groups.{is_lost, is_out, in_of, FellOne, IsReady, AllTold, LeavesGroup, StandsFor, MostCalls, KeepsMember, StaysOrFell};
+ghost use Rattle.dg_parity.specs.Updates.{StaysLeast};
 
 use crate::groups::Group;
 use crate::run_reads::read_window;
@@ -55,6 +56,7 @@ pub(crate) fn write_member<R: Rack>(group: &mut Group, rack: &mut R, place: u64,
     ensures put { OnTrue result ((bytes : List ℕ) → AllTold R.Rack group.new rack.new → StandsFor R.Rack group.old rack.old bytes
         → StandsFor R.Rack group.new rack.new (patch bytes place buf.now)) }
     ensures steady { OnTrue result (StaysOrFell group.old group.new) }
+    ensures least { OnTrue result (StaysLeast R.Rack group.old.disks (is_out group.old) place (length buf.now) group.old group.new rack.old rack.new) }
     ensures calls { MostCalls R.Rack (group.old.disks * passes_in group.old.disks place (length buf.now) + (reads_at group.old.disks place
         + reads_at group.old.disks (place + length buf.now))) rack.old rack.new }
 {

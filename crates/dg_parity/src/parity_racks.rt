@@ -87,7 +87,7 @@ impl<R: Rack> Rack for ParityRack<R> {
     ghost use Rattle.dg_io.specs.Kept.{KeepsRest};
     ghost use Rattle.dg_io.specs.RackCalls.{RackCall};
     ghost use Rattle.dg_io.specs.Told.{Told, IsSame, IsZeros, Measures, IsEmpty, Reads, Patched, Torn, FitsIn, Extended, KeepsFront, IsHeader, OldOrNew};
-    ghost use Rattle.dg_parity.specs.ArrayCalls.{RackGoesOn, ReadsBehind, ReadsQuietly, WritesBehind, WritesQuietly};
+    ghost use Rattle.dg_parity.specs.ArrayCalls.{RackGoesOn, ReadsBehind, ReadsQuietly, WritesBehind, WritesLeast, WritesQuietly};
     ghost use Rattle.dg_parity.specs.ParityRacks.{IsFallen, IsNoted, IsPast, IsServed, IsShaped, IsShort, IsUnserved};
     ghost use Rattle.dg_parity.specs.ParityRacks.{ParityMade, parity_bytes, parity_counts, parity_disks, parity_keeps, parity_name, parity_stands, parity_steady, parity_tells, parity_words};
     ghost use Rattle.dg_parity.specs.ParityLaws.{parity_after, parity_both, parity_none, parity_tells_told, parity_told};
@@ -186,6 +186,7 @@ impl<R: Rack> Rack for ParityRack<R> {
         ensures noted { OnOk result (IsNoted self.new member) }
         ensures goes_on { RackGoesOn R.Rack self.old self.new }
         ensures quiet { OnOk result (WritesQuietly R.Rack self.old self.new member place (length buf.now)) }
+        ensures least { OnOk result (WritesLeast R.Rack self.old self.new member place (length buf.now)) }
         ensures alive { OnOk result (IsServed self.new member) }
         ensures fails { OnErr result (IsUnserved self.new member ⊎ IsPast self.old member (place + length buf.now)) }
         ensures calls { WritesBehind R.Rack self.old self.new member place (length buf.now) }

@@ -1,11 +1,12 @@
 // Calls on a part of one chunk of a group.
 #![tactic(auto, using(crate::proofs::GroupLemmas::leaves_none))]
 
-ghost use Rattle.std.specs.Prelude.{◌≡◌, ◌≢◌, ◌+◌, ◌*◌, ◌<◌, ◌≤◌, ℕ, true, false, length, slice_index, bit_xor, not};
+ghost use Rattle.std.specs.Prelude.{◌≡◌, ◌≢◌, ◌+◌, ◌-◌, ◌*◌, ◌<◌, ◌≤◌, ℕ, true, false, length, slice_index, bit_xor, not};
 ghost use Rattle.std.specs.Bool.{OnTrue, OnFalse};
 ghost use Rattle.dg_parity.specs.Exclusive.{xor_upto, with_at};
 ghost use Rattle.dg_parity.specs.Stripes.{IsEven};
 ghost use Rattle.dg_parity.specs.Groups.{is_out, is_lost, in_of, length_of, IsReady, Holds, AllTold, LeavesGroup, MostCalls, KeepsHeld, StaysOrFell};
+ghost use Rattle.dg_parity.specs.Updates.{reads_to_get, StaysWithin};
 
 use crate::disks::read_disk;
 use crate::groups::Group;
@@ -132,6 +133,7 @@ fn make_part<R: Rack>(group: &mut Group, rack: &mut R, j: u8, place: u64, buf: &
         → IsEven group.old.disks group.old.length has
         → (k : ℕ) → k < length buf.new → slice_index buf.new k ≡ has j (place + k)) }
     ensures steady { OnTrue result (StaysOrFell group.old group.new) }
+    ensures few { OnTrue result (StaysWithin R.Rack (group.old.disks - 1) group.old group.new rack.old rack.new) }
     ensures calls { MostCalls R.Rack group.old.disks rack.old rack.new }
 {
     clear(buf);
@@ -162,6 +164,7 @@ pub(crate) fn read_part<R: Rack>(
         → IsEven group.old.disks group.old.length has
         → (k : ℕ) → k < length buf.new → slice_index buf.new k ≡ has j (place + k)) }
     ensures steady { OnTrue result (StaysOrFell group.old group.new) }
+    ensures few { OnTrue result (StaysWithin R.Rack (reads_to_get group.old.disks (is_out group.old) j) group.old group.new rack.old rack.new) }
     ensures calls { MostCalls R.Rack (group.old.disks + 1) rack.old rack.new }
 {
     if group.is_out(j) {

@@ -2,6 +2,7 @@
 ghost use Rattle.std.specs.Prelude.{◌≡◌, ◌≢◌, ◌⊎◌, ◌+◌, ◌-◌, ◌/◌, ◌*◌, ◌<◌, ◌≤◌, ◌^◌, ℕ, true, false, length};
 ghost use Rattle.dg_parity.specs.Stripes.{parity_of};
 ghost use Rattle.dg_parity.specs.Runs.{byte_in, IsWindow, ChangesPage, IsSpan, Overlays, Gathers, GathersRow};
+ghost use Rattle.dg_parity.specs.Updates.{has_all, has_part, is_read};
 
 use crate::overlaps::copy_into;
 use crate::windows::{LAST, Window, chunk_on, parity_on};
@@ -165,6 +166,7 @@ fn is_touched(i: u64, at: u64, size: usize) -> bool
     requires some { 0 < size }
     requires range { at + size < 2 ^ 64 }
     ensures no { result ≡ false → (r : ℕ) → r < 512 → (512 * i + r < at) ⊎ (at + size ≤ 512 * i + r) }
+    ensures exact { result ≡ has_part at size i }
 {
     if i < at / 512 {
         return false;
@@ -178,6 +180,7 @@ fn is_covered(i: u64, at: u64, size: usize) -> bool
     requires range { at + size < 2 ^ 64 }
     ensures yes { result ≡ true → (at ≤ 512 * i) × (512 * i + 512 ≤ at + size) }
     ensures no { result ≡ false → (512 * i < at) ⊎ (at + size < 512 * i + 512) }
+    ensures exact { result ≡ has_all at size i }
 {
     if i < at / 512 {
         return false;
@@ -202,6 +205,7 @@ pub(crate) fn is_needed(n: u8, j: u8, t: u64, by_change: bool, at: u64, size: us
         → (byte_in n t j r < at) ⊎ (at + size ≤ byte_in n t j r) }
     ensures covered { by_change ≡ false → result ≡ false → j ≢ parity_of n t → (at ≤ byte_in n t j 0) × (byte_in n t j 0 + 512 ≤ at + size) }
     ensures partly { by_change ≡ false → result ≡ true → (byte_in n t j 0 < at) ⊎ (at + size < byte_in n t j 0 + 512) }
+    ensures exact { result ≡ is_read n at size t by_change j }
 {
     if j == parity_on(n, t) {
         return by_change;

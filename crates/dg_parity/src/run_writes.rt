@@ -1,13 +1,15 @@
 // Writes of runs of chunks: the new parities are made first, and then each disk is called once for several stripes.
 #![tactic(auto, using(crate::proofs::GroupLemmas::leaves_none))]
 
-ghost use Rattle.std.specs.Prelude.{◌≡◌, ◌+◌, ◌-◌, ◌*◌, ◌/◌, ◌<◌, ◌≤◌, ◌^◌, ℕ, List, true, false, length, slice_index, bit_xor, not};
+ghost use Rattle.std.specs.Prelude.{◌≡◌, ◌+◌, ◌-◌, ◌*◌, ◌/◌, ◌<◌, ◌≤◌, ◌^◌, nat_lt, ℕ, List, true, false, length, slice_index, bit_xor, not};
 ghost use Rattle.std.specs.Bool.{OnTrue};
 ghost use Rattle.dg_io.specs.Told.{patch};
 ghost use Rattle.dg_parity.specs.Stripes.{parity_of, stripe_of};
 ghost use Rattle.dg_parity.specs.Groups.{is_out, is_lost, length_of, IsReady, Holds, AllTold, LeavesGroup, MostCalls, KeepsHeld, StandsFor, StaysOrFell};
 ghost use Rattle.dg_parity.specs.Exclusive.{xor_upto};
+ghost use Rattle.dg_model.specs.Moves.{sum_upto};
 ghost use Rattle.dg_parity.specs.Runs.{ArePages, IsPage, IsWhole, IsWindow, laid, mixed, reads_at, term_of};
+ghost use Rattle.dg_parity.specs.Updates.{least_reads, reads_by, reads_for, reads_on, writes_for, writes_on, StaysLeast, StaysWithin};
 
 use crate::disks::write_disk;
 use crate::groups::Group;
@@ -42,6 +44,8 @@ fn add_term<R: Rack>(
         → (r : ℕ) → r < 512 → slice_index page.new r ≡ bit_xor (slice_index page.old r) (term_of group.old.disks t by_change bytes (patch bytes at piece.now) r j)) }
     ensures idle { by_change ≡ false → IsWhole group.old.disks t at (length piece.now) → rack.new ≡ rack.old }
     ensures steady { OnTrue result (StaysOrFell group.old group.new) }
+    ensures few { OnTrue result (StaysWithin R.Rack (reads_on group.old.disks (is_out group.old) at (length piece.now) t by_change j)
+        group.old group.new rack.old rack.new) }
     ensures calls { MostCalls R.Rack (group.old.disks + 1) rack.old rack.new }
 {
     let mut chunk = [0; 512];
@@ -82,6 +86,8 @@ fn add_terms<R: Rack>(
         ≡ bit_xor (slice_index page.old r) (xor_upto (term_of group.old.disks t by_change bytes (patch bytes at piece.now) r) group.old.disks)) }
     ensures idle { by_change ≡ false → IsWhole group.old.disks t at (length piece.now) → rack.new ≡ rack.old }
     ensures steady { OnTrue result (StaysOrFell group.old group.new) }
+    ensures few { OnTrue result (StaysWithin R.Rack (reads_by group.old.disks (is_out group.old) at (length piece.now) t by_change)
+        group.old group.new rack.old rack.new) }
     ensures calls { MostCalls R.Rack ((group.old.disks + 1) * group.old.disks) rack.old rack.new }
 {
     for j in 0..group.disks {
@@ -100,6 +106,7 @@ fn calls_of(group: &Group, j: u8, t: u64, by_change: bool, at: u64, size: usize)
     requires small { t < 2 ^ 56 }
     ensures most { result ≤ 7 }
     ensures whole { by_change ≡ false → IsWhole group.now.disks t at size → result ≡ 0 }
+    ensures exact { result ≡ reads_on group.now.disks (is_out group.now) at size t by_change j }
 {
     if !is_needed(group.disks, j, t, by_change, at, size) {
         return 0;
@@ -116,6 +123,7 @@ fn calls_for(group: &Group, t: u64, by_change: bool, at: u64, size: usize) -> u8
     requires range { at + size < 2 ^ 64 }
     requires small { t < 2 ^ 56 }
     ensures whole { by_change ≡ false → IsWhole group.now.disks t at size → result ≡ 0 }
+    ensures exact { result ≡ reads_by group.now.disks (is_out group.now) at size t by_change }
 {
     let mut calls = 0;
     for j in 0..group.disks {
@@ -130,6 +138,7 @@ fn is_by_change(group: &Group, t: u64, at: u64, size: usize) -> bool
     requires range { at + size < 2 ^ 64 }
     requires small { t < 2 ^ 56 }
     ensures whole { IsWhole group.now.disks t at size → result ≡ false }
+    ensures exact { result ≡ nat_lt (reads_by group.now.disks (is_out group.now) at size t true) (reads_by group.now.disks (is_out group.now) at size t false) }
 {
     calls_for(group, t, true, at, size) < calls_for(group, t, false, at, size)
 }
@@ -159,6 +168,8 @@ fn make_page<R: Rack>(
         → IsPage group.old.disks t (patch bytes at piece.now) page.new) }
     ensures whole { IsWhole group.old.disks t at (length piece.now) → rack.new ≡ rack.old }
     ensures steady { OnTrue result (StaysOrFell group.old group.new) }
+    ensures few { OnTrue result (StaysWithin R.Rack (least_reads group.old.disks (is_out group.old) at (length piece.now) t)
+        group.old group.new rack.old rack.new) }
     ensures calls { MostCalls R.Rack ((group.old.disks + 1) * group.old.disks) rack.old rack.new }
 {
     if group.is_out(parity_on(group.disks, t)) {
@@ -195,6 +206,8 @@ fn make_pages<R: Rack>(
         → Holds R.Rack group.old rack.old (laid group.old.disks bytes)
         → ArePages group.old.disks window.first window.count (is_out group.new) (patch bytes at piece.now) parities.new) }
     ensures steady { OnTrue result (StaysOrFell group.old group.new) }
+    ensures few { OnTrue result (StaysWithin R.Rack (reads_for group.old.disks (is_out group.old) at (length piece.now))
+        group.old group.new rack.old rack.new) }
     ensures calls { MostCalls R.Rack (reads_at group.old.disks at + reads_at group.old.disks (at + length piece.now)) rack.old rack.new }
 {
     for q in 0..window.count {
@@ -228,6 +241,8 @@ fn write_row<R: Rack>(
         → Holds R.Rack group.old rack.old (mixed group.old.disks bytes (patch bytes at piece.now) j)
         → Holds R.Rack group.new rack.new (mixed group.old.disks bytes (patch bytes at piece.now) (j + 1)) }
     ensures steady { StaysOrFell group.old group.new }
+    ensures few { MostCalls R.Rack (sum_upto window.count (λ q. writes_on group.old.disks (is_out group.old) at (length piece.now) (window.first + q) j))
+        rack.old rack.new }
     ensures calls { MostCalls R.Rack 1 rack.old rack.new }
 {
     let mut page = [0; ROW];
@@ -261,6 +276,7 @@ fn write_rows<R: Rack>(
         → Holds R.Rack group.old rack.old (laid group.old.disks bytes)
         → Holds R.Rack group.new rack.new (laid group.old.disks (patch bytes at piece.now)) }
     ensures steady { StaysOrFell group.old group.new }
+    ensures few { StaysWithin R.Rack (writes_for group.old.disks (is_out group.old) at (length piece.now)) group.old group.new rack.old rack.new }
     ensures calls { MostCalls R.Rack group.old.disks rack.old rack.new }
 {
     for j in 0..group.disks {
@@ -280,6 +296,7 @@ pub(crate) fn write_window<R: Rack>(group: &mut Group, rack: &mut R, at: u64, pi
     ensures put { OnTrue result ((bytes : List ℕ) → AllTold R.Rack group.new rack.new → StandsFor R.Rack group.old rack.old bytes
         → StandsFor R.Rack group.new rack.new (patch bytes at piece.now)) }
     ensures steady { OnTrue result (StaysOrFell group.old group.new) }
+    ensures least { OnTrue result (StaysLeast R.Rack group.old.disks (is_out group.old) at (length piece.now) group.old group.new rack.old rack.new) }
     ensures calls { MostCalls R.Rack (reads_at group.old.disks at + reads_at group.old.disks (at + length piece.now) + group.old.disks) rack.old rack.new }
 {
     let window = window_of(group.disks, at, piece.len());

@@ -8,6 +8,7 @@ ghost use Rattle.dg_io.specs.Told.{Told, IsSame, Reads, Patched, Torn, patch};
 ghost use Rattle.dg_parity.specs.Groups.{is_lost, is_out, in_of, FellOne, IsReady, AllTold, LeavesGroup, StandsFor, MostCalls, KeepsMember};
 ghost use Rattle.dg_parity.specs.Runs.{passes_in};
 ghost use Rattle.dg_parity.specs.Kept.{bytes_in, calls_to_read, calls_to_write, quiet_calls_to_write, IsKept};
+ghost use Rattle.dg_parity.specs.Updates.{CallsLeast};
 
 use crate::disks::note;
 use crate::groups::Group;
@@ -66,6 +67,8 @@ fn write_noted<R: Rack>(group: &mut Group, rack: &mut R, place: u64, piece: &[u8
         → StandsFor R.Rack group.new rack.new (patch bytes place piece.now)) }
     ensures quiet { OnTrue result (group.old.noted ≡ true → ((j : ℕ) → is_out group.old j ≡ false → is_out group.new j ≡ false)
         → MostCalls R.Rack (quiet_calls_to_write group.old.disks place (length piece.now)) rack.old rack.new) }
+    ensures least { OnTrue result (group.old.noted ≡ true → ((j : ℕ) → is_out group.old j ≡ false → is_out group.new j ≡ false)
+        → CallsLeast R.Rack group.old.disks (is_out group.old) place (length piece.now) rack.old rack.new) }
     ensures calls { MostCalls R.Rack (calls_to_write group.old.disks place (length piece.now)) rack.old rack.new }
 {
     note(group, rack);
@@ -128,6 +131,8 @@ pub(crate) fn write_told<R: Rack>(group: &mut Group, rack: &mut R, place: u64, p
     ensures err { OnFalse result (Told (Torn place (length piece.now)) (bytes_in R.Rack group.old rack.old) (bytes_in R.Rack group.new rack.new)) }
     ensures quiet { OnTrue result (group.old.noted ≡ true → ((j : ℕ) → is_out group.old j ≡ false → is_out group.new j ≡ false)
         → MostCalls R.Rack (quiet_calls_to_write group.old.disks place (length piece.now)) rack.old rack.new) }
+    ensures least { OnTrue result (group.old.noted ≡ true → ((j : ℕ) → is_out group.old j ≡ false → is_out group.new j ≡ false)
+        → CallsLeast R.Rack group.old.disks (is_out group.old) place (length piece.now) rack.old rack.new) }
     ensures calls { MostCalls R.Rack (calls_to_write group.old.disks place (length piece.now)) rack.old rack.new }
     ensures silent { is_lost group.new ≡ true → group.new.told ≡ false }
 {
@@ -183,6 +188,8 @@ pub fn write<R: Rack>(group: &mut Group, rack: &mut R, place: u64, piece: &[u8])
     ensures err { OnFalse result (Told (Torn place (length piece.now)) (bytes_in R.Rack group.old rack.old) (bytes_in R.Rack group.new rack.new)) }
     ensures quiet { OnTrue result (group.old.noted ≡ true → ((j : ℕ) → is_out group.old j ≡ false → is_out group.new j ≡ false)
         → MostCalls R.Rack (quiet_calls_to_write group.old.disks place (length piece.now)) rack.old rack.new) }
+    ensures least { OnTrue result (group.old.noted ≡ true → ((j : ℕ) → is_out group.old j ≡ false → is_out group.new j ≡ false)
+        → CallsLeast R.Rack group.old.disks (is_out group.old) place (length piece.now) rack.old rack.new) }
     ensures calls { MostCalls R.Rack (calls_to_write group.old.disks place (length piece.now)) rack.old rack.new }
     ensures silent { is_lost group.old ≡ false → is_lost group.new ≡ true → group.new.told ≡ false }
     ensures telling { group.old.told ≡ true → is_lost group.new ≡ false → group.new.told ≡ true }

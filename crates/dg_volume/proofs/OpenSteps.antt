@@ -48,7 +48,7 @@ use Rattle.dg_volume.proofs.FaultLaws.{falls_out, keeps_tells}
 use Rattle.dg_volume.proofs.LabelLaws.{filling_not_good, good_falls, length_stays, stands_through}
 use Rattle.dg_volume.proofs.PlaceLaws.{fits_all}
 use Rattle.dg_volume.specs.Origins.{WasHeld}
-use Rattle.dg_volume.specs.Origins.Origin.{held}
+use Rattle.dg_volume.specs.Origins.Origin.{held as blocks_held}
 use Rattle.dg_volume.specs.Opens.{HasOpened, IsDisordered, IsMadeOf, IsOrdered, IsPhaseOf, IsRestored, had}
 use Rattle.dg_volume.specs.Phases.{kept_in, phase_in}
 use Rattle.dg_volume.specs.Planned.{HasReadArray}
@@ -569,7 +569,7 @@ module _ (one : OneOwner) (none : NoSystem) {R : Type 0} (rack : Ghosts R) (befo
   module _ (V : List (List ℕ)) where
     -- the first members held these blocks
     abbrev P : Type 0
-    P = WasHeld rack (held (record { table = table_of volume; members = stores.members_of start; bytes = rack.bytes before; blocks = V }))
+    P = WasHeld rack (blocks_held (record { table = table_of volume; members = stores.members_of start; bytes = rack.bytes before; blocks = V }))
 
     start_held : Known P rack volume → stores.StandsFor rack start V
     start_held told =

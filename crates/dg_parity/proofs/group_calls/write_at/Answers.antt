@@ -4,7 +4,7 @@ use Rattle.dg_io.specs.Told.{Patched, Torn}
 use Rattle.dg_parity.proofs.ArrayLemmas.{calls-at, fails-past, none-back, served-call, serves-is, steps-one, told-own}
 use Rattle.dg_parity.specs.ArrayCalls.{quiet_writes_of, writes_of}
 use Rattle.dg_parity.specs.declared.groups.Group.{Group}
-use Rattle.dg_parity.proofs.GoesOnLemmas.{goes-one, none-fell, noted-at, was-noted}
+use Rattle.dg_parity.proofs.GoesOnLemmas.{goes-one, none-fell, noted-at, was-noted, least-at}
 use Rattle.dg_parity.proofs.group_calls.write_at.Goals as goal
 
 pub returns-then-not-write-clause-steps : goal.returns-then-not-write-clause-steps
@@ -104,3 +104,10 @@ returns-clause-quiet g c noted none =
     served-call g.R.Rack c.args.member c.args.groups.now.len c.args.groups.now.items c.in-Some.group.now c.write.new.group c.args.rack.now c.write.new.rack c.if-member-ne0.false c.requires.kept
     c.args.groups.now.ok.0 (c.in-Some.ensures.variant.0 refl) c.in-Some.ensures.value c.write.ensures.kept c.write.ensures.leaves c.write.ensures.idle c.write.ensures.silent c.write.ensures.telling in
     calls-at h.call (λ (o : Option Group). quiet_writes_of o c.args.place (length c.args.piece.now)) (c.if-not-write.ensures.quiet (was-noted h.call noted) (none-fell h.call none))
+
+pub returns-clause-least : goal.returns-clause-least
+returns-clause-least g c noted none =
+    let h =
+    served-call g.R.Rack c.args.member c.args.groups.now.len c.args.groups.now.items c.in-Some.group.now c.write.new.group c.args.rack.now c.write.new.rack c.if-member-ne0.false c.requires.kept
+    c.args.groups.now.ok.0 (c.in-Some.ensures.variant.0 refl) c.in-Some.ensures.value c.write.ensures.kept c.write.ensures.leaves c.write.ensures.idle c.write.ensures.silent c.write.ensures.telling in
+    least-at h.call c.args.place (length c.args.piece.now) (c.if-not-write.ensures.least (was-noted h.call noted) (none-fell h.call none))

@@ -1,11 +1,10 @@
-use Rattle.std.proofs.Common.{sym, ap, ◌∙◌, arith, length}
+use Rattle.std.proofs.Common.{sym, ap, ◌∙◌, arith, length, inl}
 use Rattle.std.specs.Prelude.{not}
 use Rattle.dg_parity.specs.Groups.{is_lost}
 use Rattle.dg_parity.specs.declared.groups.Group.{Group}
 use Rattle.dg_parity.proofs.PartLemmas.{others-in}
 use Rattle.dg_parity.proofs.CallLemmas.{lost-by}
-use Rattle.dg_parity.proofs.RunSteps.{right-made, in-most}
-use Rattle.std.proofs.Common.{inl}
+use Rattle.dg_parity.proofs.RunSteps.{right-made, in-most, in-few}
 use Rattle.dg_parity.proofs.parts.make_part.Goals as goal
 
 pub add_others-requires-clause-there : goal.add_others-requires-clause-there
@@ -32,3 +31,6 @@ returns-clause-calls g c = omega (arith, c.add_others.ensures.calls, in-most c.a
 
 pub returns-clause-steady : goal.returns-clause-steady
 returns-clause-steady g c = inl c.if-not-add_others.ensures.done
+
+pub returns-clause-few : goal.returns-clause-few
+returns-clause-few g c = inl (c.if-not-add_others.ensures.done, omega (arith, c.add_others.ensures.calls, in-few c.args.group.now c.args.j c.requires.disk c.requires.out))

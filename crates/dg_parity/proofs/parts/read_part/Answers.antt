@@ -1,8 +1,11 @@
-use Rattle.std.proofs.Common.{arith}
+use Rattle.std.proofs.Common.{ℕ, subst, arith, inl, inr, sym, ◌∙◌}
 use Rattle.dg_parity.proofs.GroupLemmas.{leaves-then}
 use Rattle.dg_parity.proofs.CallLemmas.{told-back, holds-then, even-later}
-use Rattle.std.proofs.Common.{inl, inr, sym, ◌∙◌}
 use Rattle.dg_parity.proofs.RunSteps.{fell-later}
+use Rattle.std.specs.Bool.{OnTrue}
+use Rattle.dg_parity.specs.Groups.{is_out}
+use Rattle.dg_parity.specs.Updates.{StaysWithin}
+use Rattle.dg_parity.proofs.UpdateLemmas.{get-in, get-out}
 use Rattle.dg_parity.proofs.parts.read_part.Goals as goal
 
 pub returns-then-not-make_part-clause-leaves : goal.returns-then-not-make_part-clause-leaves
@@ -34,5 +37,22 @@ returns-then-read_disk-clause-steady g c = inl c.if-read_disk.ensures.done
 
 pub returns-clause-steady : goal.returns-clause-steady
 returns-clause-steady g c =
+    inr (fell-later c.args.group.now c.read_disk.new.group c.make_part-2.new.group c.make_part-2.ensures.leaves.later
+    (record { disk = c.args.j; before = sym c.is_out.ensures ∙ c.if-is_out.false; now = c.if-read_disk.ensures.fell }))
+
+pub returns-then-is_out-clause-few : goal.returns-then-is_out-clause-few
+returns-then-is_out-clause-few g c =
+    subst (λ (most : ℕ). OnTrue c.make_part.result (StaysWithin g.R.Rack most c.args.group.now c.make_part.new.group c.args.rack.now c.make_part.new.rack))
+    (sym (get-out c.args.group.now.disks (is_out c.args.group.now) c.args.j (sym c.is_out.ensures ∙ c.if-is_out.true))) c.make_part.ensures.few
+
+pub returns-then-read_disk-clause-few : goal.returns-then-read_disk-clause-few
+returns-then-read_disk-clause-few g c =
+    inl (
+      c.if-read_disk.ensures.done,
+      omega (arith, c.read_disk.ensures.calls, get-in c.args.group.now.disks (is_out c.args.group.now) c.args.j (sym c.is_out.ensures ∙ c.if-is_out.false)),
+    )
+
+pub returns-clause-few : goal.returns-clause-few
+returns-clause-few g c =
     inr (fell-later c.args.group.now c.read_disk.new.group c.make_part-2.new.group c.make_part-2.ensures.leaves.later
     (record { disk = c.args.j; before = sym c.is_out.ensures ∙ c.if-is_out.false; now = c.if-read_disk.ensures.fell }))

@@ -1,4 +1,4 @@
-use Rattle.std.proofs.Common.{◌-◌, refl}
+use Rattle.std.proofs.Common.{refl}
 use Rattle.dg_parity.proofs.RowLemmas.{gathers-more}
 use Rattle.dg_parity.proofs.rows.gather.Goals as goal
 

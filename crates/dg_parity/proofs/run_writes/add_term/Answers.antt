@@ -1,4 +1,4 @@
-use Rattle.std.proofs.Common.{ℕ, length, inl, inr, sym, subst, ◌∙◌, arith}
+use Rattle.std.proofs.Common.{ℕ, length, inl, inr, sym, subst, ◌∙◌, arith, refl}
 use Rattle.std.proofs.lemmas.Bool.{cases_eq, false≢true}
 use Rattle.dg_io.specs.Told.{patch}
 use Rattle.dg_parity.specs.Stripes.{parity_of}
@@ -6,7 +6,8 @@ use Rattle.dg_parity.specs.Runs.{laid, ChangesPage}
 use Rattle.dg_parity.proofs.LaidLemmas.{laid-even, term-added}
 use Rattle.dg_parity.proofs.LaidSteps.{patched}
 use Rattle.dg_parity.proofs.RowLemmas.{whole-covers}
-use Rattle.std.proofs.Common.{refl}
+use Rattle.dg_parity.specs.Groups.{is_out}
+use Rattle.dg_parity.proofs.UpdateLemmas.{reads-needed, within-is, within-none}
 use Rattle.dg_parity.proofs.run_writes.add_term.Goals as goal
 
 pub returns-then-not-is_needed-clause-added : goal.returns-then-not-is_needed-clause-added
@@ -46,3 +47,12 @@ returns-then-not-is_needed-clause-steady g c = inl refl
 
 pub returns-clause-steady : goal.returns-clause-steady
 returns-clause-steady g c = c.if-not-read_part.ensures.steady
+
+pub returns-then-not-is_needed-clause-few : goal.returns-then-not-is_needed-clause-few
+returns-then-not-is_needed-clause-few g c = within-none g.R.Rack _ c.args.group.now c.args.rack.now
+
+pub returns-clause-few : goal.returns-clause-few
+returns-clause-few g c =
+    within-is g.R.Rack _ _ _ _ _ _
+    (sym (reads-needed c.args.group.now.disks (is_out c.args.group.now) c.args.at (length c.args.piece.now) c.args.t c.args.by_change c.args.j (sym c.is_needed.ensures.exact ∙ c.if-not-is_needed.false)))
+    c.if-not-read_part.ensures.few

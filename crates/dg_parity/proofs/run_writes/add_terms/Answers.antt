@@ -1,14 +1,20 @@
-use Rattle.std.proofs.Common.{◌≡◌, ◌+◌, ◌*◌, ◌<◌, ◌≤◌, ℕ, length, refl, sym, subst, ◌∙◌, arith, get_or, bit_xor}
+use Rattle.std.specs.Int.Bits.{xor_zero_r}
+use Rattle.std.proofs.Common.{inl, ◌≡◌, ◌+◌, ◌*◌, ◌<◌, ◌≤◌, ℕ, length, refl, sym, subst, ◌∙◌, arith, get_or, bit_xor}
 use Rattle.dg_io.specs.Told.{patch}
-use Rattle.dg_parity.specs.Groups.{Holds}
+use Rattle.dg_parity.specs.Groups.{Holds, is_out}
 use Rattle.dg_parity.specs.Runs.{IsWhole, laid, term_of}
 use Rattle.std.proofs.Math.Nat.{mul-le-mul_left}
 use Rattle.dg_parity.specs.Exclusive.{xor_upto}
 use Rattle.dg_parity.proofs.CountLemmas.{mul-next}
-use Rattle.dg_parity.proofs.GroupLemmas.{leaves-then, same-length}
+use Rattle.dg_parity.proofs.GroupLemmas.{leaves-then, leaves_none, same-length}
 use Rattle.dg_parity.proofs.CallLemmas.{holds-then, told-back, added-more}
 use Rattle.dg_parity.proofs.MemberSteps.{not-true}
 use Rattle.dg_parity.proofs.RunSteps.{stays-then}
+use Rattle.dg_model.specs.Moves.{sum_upto}
+use Rattle.dg_parity.specs.Updates.{reads_on, StaysWithin}
+use Rattle.dg_parity.specs.declared.groups.Group.{Group}
+use Rattle.dg_model.proofs.SumLaws.{sum_more}
+use Rattle.dg_parity.proofs.UpdateLemmas.{within-none, within-then}
 use Rattle.dg_parity.proofs.run_writes.add_terms.Goals as goal
 
 pub add_term-requires : goal.add_term-requires
@@ -46,6 +52,11 @@ loop-j-preserved g c =
       idle = λ by whole.
           c.add_term.ensures.idle by (subst (λ (m : ℕ). IsWhole m c.args.t c.args.at (length c.args.piece.now)) (sym n) whole) ∙ c.loop-j.invariant.idle by whole;
       steady = stays-then c.args.group.now c.loop-j.group c.add_term.new.group c.add_term.ensures.leaves.later c.loop-j.invariant.steady c.if-not-add_term.ensures.steady;
+      few =
+          let own = λ (k : Group). reads_on k.disks (is_out k) c.args.at (length c.args.piece.now) c.args.t c.args.by_change c.loop-j.j in
+          let more = sum_more (reads_on c.args.group.now.disks (is_out c.args.group.now) c.args.at (length c.args.piece.now) c.args.t c.args.by_change) c.loop-j.j (c.loop-j.j + 1) refl in
+          within-then g.R.Rack own _ _ c.args.group.now c.loop-j.group c.add_term.new.group _ _ _ c.add_term.ensures.leaves.later (omega (arith, more)) c.loop-j.invariant.few
+          c.if-not-add_term.ensures.few;
       calls = omega (arith, c.loop-j.invariant.calls, c.add_term.ensures.calls, n, mul-next (c.args.group.now.disks + 1) c.loop-j.j);
     }
 
@@ -74,3 +85,22 @@ returns-clause-added g c bytes size all held r lt =
 
 pub returns-clause-steady : goal.returns-clause-steady
 returns-clause-steady g c = c.loop-j.invariant.steady
+
+pub returns-clause-few : goal.returns-clause-few
+returns-clause-few g c =
+    let end : c.loop-j.j ≡ c.args.group.now.disks = omega arith in
+    subst (λ (m : ℕ). StaysWithin g.R.Rack (sum_upto m (reads_on c.args.group.now.disks (is_out c.args.group.now) c.args.at (length c.args.piece.now) c.args.t c.args.by_change))
+    c.args.group.now c.loop-j.group c.args.rack.now c.loop-j.rack) end c.loop-j.invariant.few
+
+pub loop-j-init : goal.loop-j-init
+loop-j-init g c = record {
+  end = refl;
+  alive = c.requires.alive;
+  leaves = leaves_none g.R.Rack c.args.group.now c.args.rack.now c.requires.ready;
+  holds = λ has all held. held;
+  added = λ bytes size all held r lt. sym (xor_zero_r (get_or c.args.page.now r 0));
+  idle = λ by whole. refl;
+  steady = inl refl;
+  few = within-none g.R.Rack _ c.args.group.now c.args.rack.now;
+  calls = omega arith;
+}

@@ -1,4 +1,4 @@
-use Rattle.std.proofs.Common.{ℕ, sym, ap, ◌∙◌, arith, bit_xor}
+use Rattle.std.proofs.Common.{ℕ, sym, ap, ◌∙◌, arith, bit_xor, inl, refl, length}
 use Rattle.std.proofs.lemmas.Bool.{false≢true}
 use Rattle.std.specs.Int.Bits.{xor_zero_l}
 use Rattle.dg_io.specs.Told.{patch}
@@ -6,7 +6,7 @@ use Rattle.dg_parity.specs.Exclusive.{xor_upto}
 use Rattle.dg_parity.specs.Groups.{is_out}
 use Rattle.dg_parity.specs.Runs.{term_of}
 use Rattle.dg_parity.proofs.LaidLemmas.{page-made}
-use Rattle.std.proofs.Common.{inl, refl}
+use Rattle.dg_parity.proofs.UpdateLemmas.{least-is, within-is, within-none}
 use Rattle.dg_parity.proofs.run_writes.make_page.Goals as goal
 
 pub returns-then-is_out-clause-right : goal.returns-then-is_out-clause-right
@@ -32,3 +32,13 @@ returns-then-is_out-clause-steady g c = inl refl
 
 pub returns-clause-steady : goal.returns-clause-steady
 returns-clause-steady g c = c.if-not-add_terms.ensures.steady
+
+pub returns-then-is_out-clause-few : goal.returns-then-is_out-clause-few
+returns-then-is_out-clause-few g c = within-none g.R.Rack _ c.args.group.now c.args.rack.now
+
+pub returns-clause-few : goal.returns-clause-few
+returns-clause-few g c =
+    within-is g.R.Rack _ _ _ _ _ _
+    (least-is c.args.group.now.disks (is_out c.args.group.now) c.args.at (length c.args.piece.now) c.args.t c.is_by_change-by_change.result
+    (ap (is_out c.args.group.now) (sym c.parity_on.ensures) ∙ sym c.is_out.ensures ∙ c.if-is_out.false) c.is_by_change-by_change.ensures.exact)
+    c.if-not-add_terms.ensures.few

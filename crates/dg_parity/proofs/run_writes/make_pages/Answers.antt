@@ -9,9 +9,13 @@ use Rattle.dg_parity.specs.Runs.{laid, IsPage, IsWhole}
 use Rattle.dg_parity.proofs.GroupLemmas.{leaves-then, leaves_none, in-before, same-length}
 use Rattle.dg_parity.proofs.CallLemmas.{told-back, holds-then}
 use Rattle.dg_parity.proofs.MemberSteps.{mid-before, mid-inside, not-true}
-use Rattle.dg_parity.proofs.RunSteps.{window-below, window-small, idle-calls}
+use Rattle.dg_parity.proofs.RunSteps.{window-below, window-small, idle-calls, stays-then}
 use Rattle.dg_parity.proofs.WriteSteps.{read-none, read-next, whole-is}
-use Rattle.dg_parity.proofs.RunSteps.{stays-then}
+use Rattle.dg_parity.specs.Updates.{least_reads}
+use Rattle.dg_parity.specs.declared.groups.Group.{Group}
+use Rattle.dg_model.proofs.SumLaws.{sum_more}
+use Rattle.dg_model.specs.Moves.{sum_upto}
+use Rattle.dg_parity.proofs.UpdateLemmas.{window-sum, within-is, within-none, within-then}
 use Rattle.dg_parity.proofs.run_writes.make_pages.Goals as goal
 
 pub make_page-requires-clause-range : goal.make_page-requires-clause-range
@@ -60,6 +64,12 @@ loop-q-preserved g c =
                 ∙ c.loop-q.invariant.right bytes long back held i r (omega (arith, lt, ne)) small (in-before c.loop-q.group c.make_page.new.group _ c.make_page.ensures.leaves.later in0)
           ];
       steady = stays-then c.args.group.now c.loop-q.group c.make_page.new.group c.make_page.ensures.leaves.later c.loop-q.invariant.steady c.if-not-make_page.ensures.steady;
+      few =
+          let own = λ (k : Group). least_reads k.disks (is_out k) c.args.at (length c.args.piece.now) (c.args.window.first + q) in
+          let more =
+          sum_more (λ i. least_reads c.args.group.now.disks (is_out c.args.group.now) c.args.at (length c.args.piece.now) (c.args.window.first + i)) q (q + 1) refl in
+          within-then g.R.Rack own _ _ c.args.group.now c.loop-q.group c.make_page.new.group _ _ _ c.make_page.ensures.leaves.later (omega (arith, more)) c.loop-q.invariant.few
+          c.if-not-make_page.ensures.few;
       reads = read-next c.args.group.now.disks c.args.at (c.args.at + length c.args.piece.now) c.args.window.count c.loop-q.q _ _ _ (omega arith)
           (subst (λ (m : ℕ). MostCalls g.R.Rack ((m + 1) * m) c.loop-q.rack c.make_page.new.rack) c.loop-q.invariant.leaves.later.disks c.make_page.ensures.calls)
           (λ first last. idle-calls g.R.Rack _ _ (c.make_page.ensures.whole (subst (λ (m : ℕ). IsWhole m (c.args.window.first + c.loop-q.q) c.args.at (length c.args.piece.now))
@@ -100,6 +110,7 @@ loop-q-init g c = record {
   holds = λ has all held. held;
   right = λ bytes size all held q r lt. absurd (omega (arith, lt));
   steady = inl refl;
+  few = within-none g.R.Rack _ c.args.group.now c.args.rack.now;
   reads = read-none _ _ _ _ _;
 }
 
@@ -109,3 +120,12 @@ make_page-requires-clause-small g c =
 
 pub returns-clause-steady : goal.returns-clause-steady
 returns-clause-steady g c = c.loop-q.invariant.steady
+
+pub returns-clause-few : goal.returns-clause-few
+returns-clause-few g c =
+    let own = λ (t : ℕ). least_reads c.args.group.now.disks (is_out c.args.group.now) c.args.at (length c.args.piece.now) t in
+    let end : c.loop-q.q ≡ c.args.window.count = omega arith in
+    within-is g.R.Rack _ _ _ _ _ _
+    (ap (λ (m : ℕ). sum_upto m (λ q. own (c.args.window.first + q))) end
+    ∙ window-sum own c.args.group.now.disks c.args.at (length c.args.piece.now) c.args.window c.requires.some c.requires.window)
+    c.loop-q.invariant.few

@@ -1,5 +1,5 @@
 use Rattle.std.proofs.lemmas.List.{length-take-le}
-use Rattle.std.proofs.Common.{◌≡◌, ◌∙◌, ◌+◌, ◌-◌, ◌*◌, length, take, drop, refl, arith}
+use Rattle.std.proofs.Common.{◌≡◌, ◌∙◌, ◌+◌, ◌-◌, ◌*◌, length, take, drop, refl, arith, inl}
 use Rattle.dg_io.specs.Told.{patch}
 use Rattle.dg_parity.specs.Groups.{is_out}
 use Rattle.dg_parity.specs.Stripes.{put}
@@ -7,7 +7,7 @@ use Rattle.dg_parity.specs.Runs.{mixed}
 use Rattle.dg_parity.proofs.GroupLemmas.{later-same}
 use Rattle.dg_parity.proofs.HoldLemmas.{put-other}
 use Rattle.dg_parity.proofs.LaidSteps.{patched, row-own, row-none, row-put, pages-of}
-use Rattle.std.proofs.Common.{inl}
+use Rattle.dg_parity.proofs.UpdateLemmas.{row-calls}
 use Rattle.dg_parity.proofs.run_writes.write_row.Goals as goal
 
 pub returns-then-span-clause-put : goal.returns-then-span-clause-put
@@ -43,3 +43,8 @@ returns-then-span-clause-steady g c = inl refl
 
 pub returns-clause-steady : goal.returns-clause-steady
 returns-clause-steady g c = c.write_disk.ensures.steady
+
+pub returns-clause-few : goal.returns-clause-few
+returns-clause-few g c =
+    row-calls g.R.Rack c.args.group.now.disks (is_out c.args.group.now) c.args.j c.args.at (length c.args.piece.now) c.args.window c.span_of-span.result.low c.span_of-span.result.high
+    c.args.rack.now c.write_disk.new.rack c.span_of-span.ensures (omega (arith, c.if-span.false)) c.write_disk.ensures.idle c.write_disk.ensures.calls

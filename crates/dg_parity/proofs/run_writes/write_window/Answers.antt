@@ -9,6 +9,7 @@ use Rattle.dg_parity.proofs.CallLemmas.{told-back}
 use Rattle.dg_parity.proofs.MemberSteps.{stands-length}
 use Rattle.dg_parity.proofs.LaidSteps.{stands-laid, laid-stands}
 use Rattle.dg_parity.proofs.RunSteps.{stays-then}
+use Rattle.dg_parity.proofs.UpdateSteps.{window-least}
 use Rattle.dg_parity.proofs.run_writes.write_window.Goals as goal
 
 pub write_rows-requires : goal.write_rows-requires
@@ -54,3 +55,8 @@ returns-clause-calls g c = omega (arith, c.make_pages.ensures.calls, c.write_row
 pub returns-clause-steady : goal.returns-clause-steady
 returns-clause-steady g c =
     stays-then c.args.group.now c.make_pages.new.group c.write_rows.new.group c.write_rows.ensures.leaves.later c.if-not-make_pages.ensures.steady c.write_rows.ensures.steady
+
+pub returns-clause-least : goal.returns-clause-least
+returns-clause-least g c =
+    window-least g.R.Rack c.args.group.now c.make_pages.new.group c.write_rows.new.group _ _ _ c.args.at (length c.args.piece.now) c.requires.some c.write_rows.ensures.leaves.later
+    c.if-not-make_pages.ensures.few c.write_rows.ensures.few c.write_rows.ensures.calls

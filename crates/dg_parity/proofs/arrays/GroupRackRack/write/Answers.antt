@@ -5,7 +5,7 @@ use Rattle.dg_io.specs.RackWords.{Leaves}
 use Rattle.dg_io.specs.Told.{IsHeader, OldOrNew, Patched, Told, Torn}
 use Rattle.dg_model.specs.Causes.{RoseByOne}
 use Rattle.dg_parity.proofs.ArraySteps.{err_on, held_after, leaves_grouped, made_grouped, tally_of}
-use Rattle.dg_parity.specs.ArrayCalls.{quiet_writes_of, writes_of}
+use Rattle.dg_parity.specs.ArrayCalls.{quiet_writes_of, writes_of, LeastOf}
 use Rattle.dg_parity.specs.Groups.{MostCalls}
 use Rattle.dg_parity.specs.Arrays.{group_at, Grouped, GroupedMade, grouped_bytes, grouped_words, IsShaped, serves, size_at, GoesOn, NoneFell, is_noted}
 use Rattle.dg_parity.proofs.arrays.GroupRackRack.write.Goals as goal
@@ -97,3 +97,9 @@ returns-clause-quiet g c =
     subst (λ (s : Grouped g.row.R.Denot). OnOk c.write_at-result.result (is_noted (group_at s.groups c.args.member) ≡ true → NoneFell s.groups c.write_at-result.new.groups.items c.args.member
     → MostCalls g.R.Rack (quiet_writes_of (group_at s.groups c.args.member) c.args.place (length c.args.buf.now)) s.rack c.write_at-result.new.rack)) c.self.view_is
     c.write_at-result.ensures.quiet
+
+pub returns-clause-least : goal.returns-clause-least
+returns-clause-least g c =
+    subst (λ (s : Grouped g.row.R.Denot). OnOk c.write_at-result.result (is_noted (group_at s.groups c.args.member) ≡ true → NoneFell s.groups c.write_at-result.new.groups.items c.args.member
+    → LeastOf g.R.Rack (group_at s.groups c.args.member) c.args.place (length c.args.buf.now) s.rack c.write_at-result.new.rack)) c.self.view_is
+    c.write_at-result.ensures.least

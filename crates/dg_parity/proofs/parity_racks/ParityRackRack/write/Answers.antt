@@ -4,7 +4,7 @@ use Rattle.dg_io.specs.RackCalls.RackCall.{calls}
 use Rattle.dg_io.specs.RackWords.{Leaves}
 use Rattle.dg_io.specs.Told.{IsHeader, OldOrNew, Patched, Told, Torn}
 use Rattle.dg_model.specs.Causes.{RoseByOne}
-use Rattle.dg_parity.specs.ArrayCalls.{RackGoesOn, WritesBehind, WritesQuietly}
+use Rattle.dg_parity.specs.ArrayCalls.{RackGoesOn, WritesBehind, WritesQuietly, WritesLeast}
 use Rattle.dg_parity.specs.ParityLaws.{grouped_leaves, grouped_made, plain_made, plain_leaves}
 use Rattle.dg_parity.specs.ParityRacks.{ParityMade, parity_bytes, parity_counts, parity_stands, parity_steady, parity_words, IsNoted, IsServed, IsShaped, IsUnserved, IsPast}
 use Rattle.dg_parity.specs.declared.parity_racks.ParityRack.{ParityRack}
@@ -113,3 +113,13 @@ pub returns-in-OfGroups-clause-quiet : goal.returns-in-OfGroups-clause-quiet
 returns-in-OfGroups-clause-quiet g c =
     subst (λ (s : ParityRack g.row.R.Denot). OnOk c.write-in-OfGroups.result (WritesQuietly g.R.Rack s (OfGroups c.write-in-OfGroups.new.self) c.args.member c.args.place (length c.args.buf.now)))
     (sym c.in-OfGroups.is) c.write-in-OfGroups.ensures.quiet
+
+pub returns-in-Plain-clause-least : goal.returns-in-Plain-clause-least
+returns-in-Plain-clause-least g c =
+    subst (λ (s : ParityRack g.row.R.Denot). OnOk c.write.result (WritesLeast g.R.Rack s (Plain c.write.new.self) c.args.member c.args.place (length c.args.buf.now))) (sym c.in-Plain.is)
+    (ok_on c.write.result (WritesLeast g.R.Rack (Plain c.in-Plain.rack) (Plain c.write.new.self) c.args.member c.args.place (length c.args.buf.now)) tt)
+
+pub returns-in-OfGroups-clause-least : goal.returns-in-OfGroups-clause-least
+returns-in-OfGroups-clause-least g c =
+    subst (λ (s : ParityRack g.row.R.Denot). OnOk c.write-in-OfGroups.result (WritesLeast g.R.Rack s (OfGroups c.write-in-OfGroups.new.self) c.args.member c.args.place (length c.args.buf.now)))
+    (sym c.in-OfGroups.is) c.write-in-OfGroups.ensures.least
