@@ -13,11 +13,11 @@ use Rattle.dg_volume_tests.specs.Ready.{IsReady}
 
 -- any call but one that takes boundaries out of use
 pub stays_ready : {S T R : Type 0} (from : phases.Ghosts S) (to : phases.Ghosts T) (rack : Ghosts R) (boundaries : R → ℕ) (old : Volume S R) (new : Volume T R)
-    → IsReady from rack boundaries old → Leaves from to rack old new → IsReady to rack boundaries new
-stays_ready from to rack boundaries old new ready leaves = record {
+    → Leaves from to rack old new → IsReady from rack boundaries old → IsReady to rack boundaries new
+stays_ready from to rack boundaries old new leaves ready = record {
   well = leaves.well;
   names = ready.names;
-  enough = rw (leaves.shape, ready.names (rack_of new) (rack_of old) leaves.same_rack) ready.enough
+  enough = rw (leaves.shape, ready.names (rack_of new) (rack_of old) leaves.same_rack) ready.enough;
 }
 
 -- what `regroup` requires
@@ -35,12 +35,12 @@ enough_left rack boundaries dropped old new ready out =
 
 -- what `regroup` leaves
 pub regrouped_ready : {R : Type 0} (rack : Ghosts R) (boundaries : R → ℕ) (dropped : R → ℕ → R → Type 0) (old new : Volume AnyPhase R) (answer : RegroupAnswer)
-    → IsReady any_phase rack boundaries old → GoesOn any_phase rack old new → AnswersRegroup rack boundaries dropped old new answer
+    → GoesOn any_phase rack old new → AnswersRegroup rack boundaries dropped old new answer → IsReady any_phase rack boundaries old
     → IsReady any_phase rack boundaries new
-regrouped_ready rack boundaries dropped old new Whole ready on is = stays_ready any_phase any_phase rack boundaries old new ready is.leaves
-regrouped_ready rack boundaries dropped old new TooFew ready on is = stays_ready any_phase any_phase rack boundaries old new ready is.leaves
-regrouped_ready rack boundaries dropped old new (Regrouped r c) ready on is = record {
+regrouped_ready rack boundaries dropped old new Whole on is ready = stays_ready any_phase any_phase rack boundaries old new is.leaves ready
+regrouped_ready rack boundaries dropped old new TooFew on is ready = stays_ready any_phase any_phase rack boundaries old new is.leaves ready
+regrouped_ready rack boundaries dropped old new (Regrouped r c) on is ready = record {
   well = on.well;
   names = ready.names;
-  enough = enough_left rack boundaries dropped old new ready is.out
+  enough = enough_left rack boundaries dropped old new ready is.out;
 }

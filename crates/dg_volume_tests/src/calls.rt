@@ -1,4 +1,6 @@
 // Calls of a volume over a rack of the boundaries in use, which leave it so that `regroup` may be called.
+#![tactic(auto, using(crate::proofs::ReadyLemmas::stays_ready, crate::proofs::ReadyLemmas::regrouped_ready, crate::proofs::ReadyLemmas::has_boundaries))]
+
 ghost use Rattle.std.specs.Prelude.{IfOk};
 ghost use Rattle.dg_model.specs.Shapes.{IsShape};
 ghost use Rattle.dg_regroup.specs.LiveGhosts.{live};
