@@ -182,13 +182,14 @@ enum Came {
     Never,
 }
 
-/// Makes both members of boundary 2 fail, and one of each other one. It answers whether no member was out before.
+/// Makes both members of boundary 2 fail, and one of each other one. It answers whether no member was out before, so that the other
+/// boundaries aren't lost.
 fn lose_half<R: Reduces>(volume: &mut Volume<AnyPhase, R>) -> bool
     requires { IsReady any_phase R.Rack R.boundaries volume.old }
     ensures { IsReady any_phase R.Rack R.boundaries volume.new }
 {
     let answers = [volume.fail(0, 0), volume.fail(1, 0), volume.fail(3, 0)];
-    lose(volume, 2) && answers == [FailAnswer::Failed; 3]
+    lose(volume, 2) && answers == [FailAnswer::Failed; 3] && volume.lost() == 0b100
 }
 
 /// An image without the data of its largest file, but with its indirect block: so that a run has fewer calls.
@@ -254,17 +255,18 @@ fn come(rt: &impl Abort, alloc: Global, image: &[u8], call: u64) -> Result<Came,
 fn each_call_of_a_regroup(rt: HostRuntime) -> Result<(), Fail> {
     let alloc = rt.alloc();
     let files = without_data(alloc, &image(alloc)?)?;
-    let mut first = 0;
-    for step in 1..100u64 {
-        if come(&rt, alloc, &files, 32 * step)? != Came::Before {
-            break;
+    // the last call before
+    let mut last = 0u64;
+    for bit in 0..12u32 {
+        let call = last.saturating_add(2048 >> bit);
+        if come(&rt, alloc, &files, call)? == Came::Before {
+            last = call;
         }
-        first = 32 * step;
     }
     let mut within = 0u32;
-    for call in first..first + 200 {
-        match come(&rt, alloc, &files, call)? {
-            Came::Before => {}
+    for step in 1..200u64 {
+        match come(&rt, alloc, &files, last.saturating_add(step))? {
+            Came::Before => return Err("order".into()),
             Came::Within => within = within.saturating_add(1),
             Came::Never => {
                 assert!(rt; within > 10);
