@@ -1,6 +1,6 @@
 use Rattle.dg_volume.specs.Volumes.{any_phase}
 use Rattle.dg_volume_tests.specs.Ready.{IsReady}
-use Rattle.dg_volume_tests.proofs.regroup_tests.has_blocks.Given as goal
+use Rattle.dg_volume_tests.proofs.regroup_faults.has_blocks.Given as goal
 
 abbrev pub invariant-loop-block : goal.invariant-loop-block
 invariant-loop-block g l =
