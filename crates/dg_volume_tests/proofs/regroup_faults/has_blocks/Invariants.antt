@@ -6,4 +6,4 @@ abbrev pub invariant-loop-block : goal.invariant-loop-block
 invariant-loop-block g l =
     (goal.iterator-loop-block g).can_next l.block-iterator
     × (goal.iterator-loop-block g).is_finite l.block-iterator
-    × IsReady any_phase g.R.Rack g.R.boundaries l.volume
+    × IsReady any_phase g.R.Rack g.R.Reduces.boundaries l.volume
