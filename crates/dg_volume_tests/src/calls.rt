@@ -1,5 +1,5 @@
 // Calls of a volume over a rack of the boundaries in use, which leave it so that `regroup` may be called.
-#![tactic(auto, using(crate::proofs::ReadyLemmas::stays_ready, crate::proofs::ReadyLemmas::regrouped_ready, crate::proofs::ReadyLemmas::has_boundaries))]
+#![tactic(auto, using(crate::proofs::ReadyLemmas::stays_ready, crate::proofs::ReadyLemmas::regrouped_ready, crate::proofs::ReadyLemmas::has_boundaries, crate::proofs::LiveLemmas::live_ready))]
 
 ghost use Rattle.std.specs.Prelude.{IfOk};
 ghost use Rattle.dg_model.specs.Shapes.{IsShape};
