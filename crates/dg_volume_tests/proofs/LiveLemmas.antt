@@ -3,7 +3,7 @@ use Rattle.std.proofs.Common.{◌≡◌, ◌≤◌, ◌<◌, ℕ, All, List, len
 use Rattle.dg_io.specs.declared.outside.Rack.{Ghosts}
 use Rattle.dg_model.specs.declared.shapes.Shape.{Shape}
 use Rattle.dg_regroup.specs.LiveGhosts.{live}
-use Rattle.dg_regroup.specs.LiveRacks.{live_count, live_in, live_name, named}
+use Rattle.dg_regroup.specs.LiveRacks.{live_count, live_name, named}
 use Rattle.dg_regroup.specs.declared.live_racks.LiveRack.{LiveRack}
 use Rattle.dg_volume.specs.Volumes.{loose_phase, rack_of, shape_of}
 use Rattle.dg_volume.specs.declared.phases.Loose.{Loose}

@@ -1,5 +1,5 @@
 -- What calls leave of volumes of which `regroup` may be called.
-use Rattle.std.proofs.Common.{◌≡◌, ◌≤◌, ℕ, ap, arith}
+use Rattle.std.proofs.Common.{◌≤◌, ℕ, ap, arith}
 use Rattle.dg_io.specs.declared.outside.Rack.{Ghosts}
 use Rattle.dg_model.specs.declared.shapes.Shape.{Shape}
 use Rattle.dg_store.specs.Stores as stores
