@@ -18,7 +18,7 @@ use Rattle.dg_model.specs.Changes.{AreGoodMarks, PassesSave}
 use Rattle.dg_model.specs.Homes.{home_of}
 use Rattle.dg_model.specs.Lives.{boundary_at}
 use Rattle.dg_model.specs.Marks.{is_marked}
-use Rattle.dg_model.specs.Members.{is_good, partner_of}
+use Rattle.dg_model.specs.Members.{ArePaired, is_good, partner_of}
 use Rattle.dg_model.specs.Openings.{FitsReduced}
 use Rattle.dg_model.specs.Saves.{AreHomes, CanBeSaved, HasForm, SavedState, body_of, room_of}
 use Rattle.dg_model.specs.Seals.{HoldsLabel, LastLabel, forgotten, keeps_label as has_label, next_sequence}
@@ -124,6 +124,46 @@ pub bodies_fit : {E : Type 0} (state : SavedState) (shape : Shape) (result : Res
 bodies_fit state shape (Ok bytes) same room is =
     subst (λ (sh : Shape). length bytes.items ≤ room_of 2 sh) same (subst (λ (xs : List ℕ). length xs ≤ room_of 2 state.table.shape) (sym is) room)
 bodies_fit state shape (Err e) same room is = tt
+
+-- where no member is good, of none it is said any more that it has the label
+pub forgotten_stands : {R : Type 0} (rack : Ghosts R) (line : Shape) (a b : Store R) (kept : Option KeptLabel) (last : Option LastLabel) → stores.shape_of b ≡ stores.shape_of a
+    → ArePaired (stores.members_of b) → HasNoGood b → StandsLabeled rack line a kept last → StandsLabeled rack line b kept (option_map forgotten last)
+forgotten_stands rack line a b kept last shape paired none stands = record {
+  kept = kept_of last kept stands.kept;
+  holds = held last;
+  sizes = sized last;
+  of_array = of_last last stands.of_array;
+  filling = λ q fills. lacks last q;
+  fresh = λ q below here lacking. absurd (out_each q here);
+}
+  where
+    kept_of : (last : Option LastLabel) (kept : Option KeptLabel) → IsKeptOf last kept → IsKeptOf (option_map forgotten last) kept
+    kept_of None None is = tt
+    kept_of None (Some k) is = absurd is
+    kept_of (Some l) None is = absurd is
+    kept_of (Some l) (Some k) is = record { format = is.format; sequence = is.sequence; sealed = is.sealed; body = is.body }
+
+    held : (last : Option LastLabel) → IfSome (option_map forgotten last) (λ l. HoldsLabel l (rack.bytes (stores.rack_of b)))
+    held None = tt
+    held (Some l) = record { label = λ q keeps. absurd (false≢true keeps); body = λ q keeps sealed. absurd (false≢true keeps) }
+
+    sized : (last : Option LastLabel) → IfSome (option_map forgotten last) (λ l. l.shape ≡ line → AreSized rack b l)
+    sized None = tt
+    sized (Some l) = λ named q keeps. absurd (false≢true keeps)
+
+    of_last : (last : Option LastLabel) → IfSome last (IsOfBoundariesInUse line (stores.shape_of a)) → IfSome (option_map forgotten last) (IsOfBoundariesInUse line (stores.shape_of b))
+    of_last None of = tt
+    of_last (Some l) of = λ why.
+        let is = of (elim why [ inl sealed ↦ inl sealed | inr same ↦ inr (sym shape ∙ same) ]) in
+        record { shape_is = is.shape_is ∙ sym shape; numbers_are = is.numbers_are }
+
+    lacks : (last : Option LastLabel) (q : ℕ) → has_label (option_map forgotten last) q ≡ false
+    lacks None q = refl
+    lacks (Some l) q = refl
+
+    -- a member that is refilled has a good partner
+    out_each : (q : ℕ) → stores.members_of b q ≢ Out → ⊥
+    out_each q here = false≢true (sym (none (partner_of q)) ∙ paired q (here_filling (stores.members_of b q) here (none q)))
 
 module _ {S R : Type 0} (phase : phases.Ghosts S) (rack : Ghosts R) where
   pub can_save : (a : Volume S R) (recent : List ℕ) → IsWell phase rack a → length recent ≤ 16 → All (λ i. i < 2 ^ 32) recent → AllPairs (λ i j. i ≢ j) recent
@@ -314,42 +354,9 @@ module _ {S R : Type 0} (phase : phases.Ghosts S) (rack : Ghosts R) where
     -- ---- no member is good
 
     forgets : (last : Option LastLabel) → StandsUnder rack a last → label ≡ a.label → HasNoGood store → StandsLabeled rack (line_of a) store label (option_map forgotten last)
-    forgets last stands same none = subst (λ (k : Option KeptLabel). StandsLabeled rack (line_of a) store k (option_map forgotten last)) (sym same) (record {
-      kept = kept_of last a.label stands.kept;
-      holds = held last;
-      sizes = sized last;
-      of_array = of_last last stands.of_array;
-      filling = λ q fills. lacks last q;
-      fresh = λ q below here lacking. absurd (out_each q here);
-    })
-      where
-        kept_of : (last : Option LastLabel) (kept : Option KeptLabel) → IsKeptOf last kept → IsKeptOf (option_map forgotten last) kept
-        kept_of None None is = tt
-        kept_of None (Some k) is = absurd is
-        kept_of (Some l) None is = absurd is
-        kept_of (Some l) (Some k) is = record { format = is.format; sequence = is.sequence; sealed = is.sealed; body = is.body }
-
-        held : (last : Option LastLabel) → IfSome (option_map forgotten last) (λ l. HoldsLabel l (rack.bytes (stores.rack_of store)))
-        held None = tt
-        held (Some l) = record { label = λ q keeps. absurd (false≢true keeps); body = λ q keeps sealed. absurd (false≢true keeps) }
-
-        sized : (last : Option LastLabel) → IfSome (option_map forgotten last) (λ l. l.shape ≡ line_of a → AreSized rack store l)
-        sized None = tt
-        sized (Some l) = λ named q keeps. absurd (false≢true keeps)
-
-        of_last : (last : Option LastLabel) → IfSome last (IsOfBoundariesInUse (line_of a) (shape_of a)) → IfSome (option_map forgotten last) (IsOfBoundariesInUse (line_of a) (stores.shape_of store))
-        of_last None of = tt
-        of_last (Some l) of = λ why.
-            let is = of (elim why [ inl sealed ↦ inl sealed | inr same ↦ inr (sym shape ∙ same) ]) in
-            record { shape_is = is.shape_is ∙ sym shape; numbers_are = is.numbers_are }
-
-        lacks : (last : Option LastLabel) (q : ℕ) → has_label (option_map forgotten last) q ≡ false
-        lacks None q = refl
-        lacks (Some l) q = refl
-
-        -- a member that is refilled has a good partner
-        out_each : (q : ℕ) → stores.members_of store q ≢ Out → ⊥
-        out_each q here = false≢true (sym (none (partner_of q)) ∙ keeps.sound.paired q (here_filling (stores.members_of store q) here (none q)))
+    forgets last stands same none =
+        subst (λ (k : Option KeptLabel). StandsLabeled rack (line_of a) store k (option_map forgotten last)) (sym same)
+        (forgotten_stands rack (line_of a) a.store store a.label last shape keeps.sound.paired none stands)
 
     saves_none : (hot body : List ℕ) (s : ℕ) → FitsReduced (table_of a) (reduced_of a) → AnswersSave rack (line_of a) body a.store store a.label label (Lost s)
         → StepsHot phase phase rack hot a Save (LostReply (boundary_at (live_of a) s)) after
