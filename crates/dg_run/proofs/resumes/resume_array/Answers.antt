@@ -1,5 +1,22 @@
+use Rattle.std.proofs.Common.{◌≡◌, ◌∙◌, ap, inr, sym}
+use Rattle.std.specs.Prelude.{Err}
 use Rattle.dg_run.proofs.Runs.{goes_none}
+use Rattle.dg_run.specs.declared.events.Fault.{Fault}
+use Rattle.dg_run.specs.declared.events.Fault.TheVariants.{Read, Write}
 use Rattle.dg_run.proofs.resumes.resume_array.Goals as goal
 
 pub returns-in_default-clause-goes : goal.returns-in_default-clause-goes
 returns-in_default-clause-goes g c = goes_none g.R.Rack c.args.array.now c.requires.sound
+
+pub returns-clause-wanting : goal.returns-clause-wanting
+returns-clause-wanting g c is = inr (c.serve_lines.ensures.wanting (c.in-Err.is ∙ ap Err (c.status_of.ensures.memory.0 is)))
+
+pub returns-clause-source_kept : goal.returns-clause-source_kept
+returns-clause-source_kept g c none = c.serve_lines.ensures.source_kept (λ at.
+    let same : c.in-Err.fault ≡ Read = let both : Err c.in-Err.fault ≡ Err Read = sym c.in-Err.is ∙ at in cc both in
+    none (c.status_of.ensures.read.1 same))
+
+pub returns-clause-sink_kept : goal.returns-clause-sink_kept
+returns-clause-sink_kept g c none = c.serve_lines.ensures.sink_kept (λ at.
+    let same : c.in-Err.fault ≡ Write = let both : Err c.in-Err.fault ≡ Err Write = sym c.in-Err.is ∙ at in cc both in
+    none (c.status_of.ensures.write.1 same))
