@@ -9,11 +9,34 @@ use ufs_samples::Which;
 /// Most bytes of the paths that such a list keeps.
 const MOST: usize = 64;
 
+/// Bytes in memory, one behind the other.
+#[derive(Drop)]
+struct Kept {
+    bytes: [u8; MOST],
+    used: usize,
+}
+
+impl Kept {
+    /// Puts a byte behind the others, where there is room.
+    fn put(&mut self, byte: u8) {
+        if self.used < MOST {
+            self.bytes[self.used] = byte;
+            self.used += 1;
+        }
+    }
+
+    /// Puts bytes behind the others.
+    fn put_all(&mut self, bytes: &[u8]) {
+        for k in 0..bytes.len() {
+            self.put(bytes[k]);
+        }
+    }
+}
+
 /// Paths in memory, one behind the other, and the inode of the last one. It takes so many.
 #[derive(Drop)]
 struct MemPaths {
-    bytes: [u8; MOST],
-    used: usize,
+    kept: Kept,
     last: u32,
     room: usize,
     faults: u64,
@@ -23,19 +46,13 @@ impl MemPaths {
     /// A list that takes so many paths.
     fn new(room: usize) -> MemPaths {
         MemPaths {
-            bytes: [0; MOST],
-            used: 0,
+            kept: Kept {
+                bytes: [0; MOST],
+                used: 0,
+            },
             last: 0,
             room,
             faults: 0,
-        }
-    }
-
-    /// Puts a byte behind the others, where there is room.
-    fn put(&mut self, byte: u8) {
-        if self.used < MOST {
-            self.bytes[self.used] = byte;
-            self.used += 1;
         }
     }
 }
@@ -54,9 +71,7 @@ impl PathList for MemPaths {
         }
         self.room = self.room.saturating_sub(1);
         self.last = inode;
-        for k in 0..path.len() {
-            self.put(path[k]);
-        }
+        self.kept.put_all(path);
         Ok(())
     }
 
@@ -145,9 +160,9 @@ fn marked_files_have_their_whole_paths(rt: HostRuntime) -> Result<(), Fail> {
     ] {
         let (answer, out) = mark(alloc, inodes, block, room)?;
         assert_eq!(rt; answer, wanted);
-        assert!(rt; out.last == last && out.used == paths.len());
+        assert!(rt; out.last == last && out.kept.used == paths.len());
         for k in 0..paths.len() {
-            assert!(rt; k < MOST && out.bytes[k] == paths[k]);
+            assert!(rt; k < MOST && out.kept.bytes[k] == paths[k]);
         }
     }
     Ok(())
