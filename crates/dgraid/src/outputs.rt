@@ -1,5 +1,5 @@
 // Standard output as a sink. It tells no bytes.
-ghost use Rattle.std.specs.Prelude.{None, ◌≡◌, ◌≤◌, ⊥};
+ghost use Rattle.std.specs.Prelude.{None, ◌≡◌, ◌≤◌};
 ghost use Rattle.std.specs.Io.{WritesAtMost};
 ghost use Rattle.dg_model.specs.Causes.{Rose};
 
