@@ -232,7 +232,7 @@ struct NarrowSink {
 }
 
 impl Sink for NarrowSink {
-    ghost use Rattle.std.specs.Prelude.{Some, ⊥};
+    ghost use Rattle.std.specs.Prelude.{Some};
     ghost use Rattle.dg_io.specs.Sinks.{taken_in, sink_faults, sink_calls};
 
     ghost taken = { λ s. Some (taken_in s.inner) };
