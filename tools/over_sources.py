@@ -30,7 +30,8 @@ def words_of(crate):
     below = crate.below()
     built = usable(below)
     of_kit = dict.fromkeys(["core", *crate.of_kit, *(name for it in below for name in it.of_kit)])
-    words = ["--crate-name", crate.name, "src/lib.rt"]
+    root = next(it for it in ("src/lib.rt", "src/main.rt") if os.path.isfile(f"{crate.folder}/{it}"))
+    words = ["--crate-name", crate.name, root]
     for name in of_kit:
         words += ["--extern", f"{name}={kit.KIT}/rlibs/{name}.rlib"]
     words += ["-L", f"dependency={kit.KIT}/rlibs"]

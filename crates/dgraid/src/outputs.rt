@@ -1,7 +1,7 @@
 // Standard output as a sink. It tells no bytes.
 ghost use Rattle.std.specs.Prelude.{None, ◌≡◌, ◌≤◌};
 ghost use Rattle.std.specs.Io.{WritesAtMost};
-ghost use Rattle.dg_model.specs.Causes.{Rose};
+ghost use Rattle.dg_model.specs.Causes.{Rose, RoseByOne};
 
 use crate::reports::report;
 use crate::searches::Search;
@@ -48,6 +48,14 @@ impl<'a> StandardOutput<'a> {
         }
     }
 
+    // The call is counted.
+    fn count(&mut self)
+        ensures counted { RoseByOne self.old.calls self.new.calls }
+        ensures faults { self.new.faults ≡ self.old.faults }
+    {
+        self.calls = self.calls.saturating_add(1);
+    }
+
     // The call fails.
     fn fault(&mut self, error: &io::Error)
         ensures rose { Rose self.old.faults self.new.faults }
@@ -72,7 +80,7 @@ impl<'a> Sink for StandardOutput<'a> {
 
     // A write that takes nothing of a piece has failed.
     fn write(&mut self, piece: &[u8]) -> Result<usize, Failed> {
-        self.calls = self.calls.saturating_add(1);
+        self.count();
         if piece == NO_STATE {
             self.search.tell(self.rt);
         }
