@@ -8,8 +8,8 @@ from collections import namedtuple
 from functools import lru_cache
 
 sys.path.insert(0, os.path.join(os.path.dirname(os.path.abspath(__file__)), "..", "soak"))
-from model import GOOD, OUT  # noqa: E402
-from saved import Worn, numbers, read_label  # noqa: E402
+from model import GOOD, OUT, Array  # noqa: E402
+from saved import numbers, read_label  # noqa: E402
 from volume import Volume  # noqa: E402
 
 PHASES = ("loose", "settled", "worn")
@@ -106,7 +106,7 @@ def encode(state, form):
     return body + (bytes([len(state.recent)]) + numbers(*state.recent) if form == b"2" else b"")
 
 
-class Opened(Worn):
+class Opened(Array):
     """An opened array. It isn't sure what a block holds where the good members that have it don't agree."""
 
     is_sure = True

@@ -34,7 +34,7 @@ SCRIPT = [
 ]
 RESUMED = [
     "cat /a", "tree", CHANGED, "tend 3", "settle", "cat /h", "diffuse", "fail 1 1", "replace 1 1", "rebuild 1 99", "save", "fail 0 0", "fail 0 1", "cat /d/b",
-    "write 3 -", "save",
+    "write 3 -", "save", "audit", "regroup", "settle", "lostfiles", "cat /a", "write 3 -", "rebuild 1 99", "save",
 ]
 RUNS = [(["replay"], SCRIPT), (["resume"], RESUMED), (["cat", "/d/b"], []), (["ls", "/"], []), (["status"], [])]
 

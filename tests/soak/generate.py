@@ -1,7 +1,8 @@
 """Random traces over small hostile volumes, with the replies of the model.
 
 A trace writes the blocks of an image in a random order, reads and asks in between, changes the image, breaks single fields
-of it and mends them again, settles, and lets members fail; a lost boundary ends the writes, so losses come late.
+of it and mends them again, settles, and lets members fail. Boundaries are lost, and where enough are left the array goes on without them;
+else the trace ends soon, since nothing can be written any more.
 """
 import random
 
@@ -113,12 +114,15 @@ class Trace:
         self.lines, self.replies, self.tail = [], [], ""
         l, n = rng.choice([512, 1024]), rng.randrange(64, 257)
         b = rng.choice([2, 2, 3, 3, 4, 4, 5, 8, 16])
-        k = up(n, b) + rng.choice([0, 0, rng.randrange(1, 9), rng.randrange(n)])
-        m = rng.randrange(1, b + 1) if rng.random() < 0.5 else rng.choice([1, min(b, 2), min(b, 3)])
+        # so many boundaries at least are to have room for the volume
+        least = rng.randrange(2, b + 1) if rng.random() < 0.6 else b
+        k = up(n, least) + rng.choice([0, 0, rng.randrange(1, 9), rng.randrange(n)])
+        m = rng.randrange(1, least + 1) if rng.random() < 0.5 else rng.choice([1, min(least, 2), min(least, 3)])
         self.array = Array(l, n, b, k, m)
         self.lines.append(f"array {l} {n} {b} {k} {m}")
         self.replies.append(["ok"])
         self.queue = []
+        self.often, self.over = 0.012 if least < b else 0.001, False
         self.new_geometry()
 
     def new_geometry(self):
@@ -355,11 +359,11 @@ class Trace:
     def some_block(self):
         rng, array = self.rng, self.array
         written, claims = array.written(), list(array.volume.claims)
-        return rng.choice([rng.randrange(array.n), rng.choice(written or [0]), rng.choice(claims or [0])])
+        return rng.choice([rng.randrange(array.n), rng.choice(written or [0]), rng.choice(claims or [0]), rng.choice([*array.cut] or [0])])
 
     def ask(self):
         rng, array = self.rng, self.array
-        word = rng.choice("read read cat cat cat ls ls who who who who pending tree home".split())
+        word = rng.choice("read read cat cat cat cat ls ls who who who who pending tree home lostfiles audit".split())
         if word in ("cat", "ls", "home"):
             path = self.some_path()
             if word != "cat" or self.is_short(path):
@@ -377,24 +381,28 @@ class Trace:
             if self.goal[block] != self.array.blocks[block] or self.rng.random() < 0.1:
                 return self.write(block, self.goal[block])
 
-    def fail_one(self, may_lose):
-        """A member that isn't the last good one of its boundary, or any one."""
-        rng, members = self.rng, self.array.members
-        s, j = rng.randrange(self.array.b), rng.randrange(2)
-        if may_lose or members[s][1 - j] == GOOD:
-            self.do(f"fail {s} {j}")
+    def some_boundary(self):
+        """The number of a boundary, mostly of one that is in use."""
+        rng, array = self.rng, self.array
+        return rng.choice(array.live) if rng.random() < 0.95 else rng.randrange(array.boundaries + 1)
+
+    def fail_one(self):
+        """A member that isn't the last good one of its boundary."""
+        rng, array = self.rng, self.array
+        place, j = rng.randrange(array.b), rng.randrange(2)
+        if array.members[place][1 - j] == GOOD:
+            self.do(f"fail {array.live[place]} {j}")
 
     def refill(self):
-        rng, members = self.rng, self.array.members
-        out = [(s, j) for s, pair in enumerate(members) for j in (0, 1) if pair[j] == OUT]
-        filling = [s for s, pair in enumerate(members) if any(isinstance(member, Filling) for member in pair)]
-        s = rng.choice([*filling * 3, rng.randrange(self.array.b)])
+        rng, members = self.rng, [*zip(self.array.live, self.array.members)]
+        out = [(s, j) for s, pair in members for j in (0, 1) if pair[j] == OUT]
+        filling = [s for s, pair in members if any(isinstance(member, Filling) for member in pair)]
         if out and rng.random() < 0.5:
             self.do("replace {} {}".format(*rng.choice(out)))
         elif rng.random() < 0.08:
-            self.do(f"replace {rng.randrange(self.array.b + 1)} {rng.randrange(3)}")
+            self.do(f"replace {self.some_boundary()} {rng.randrange(3)}")
         else:
-            self.do(f"rebuild {s if rng.random() < 0.95 else self.array.b} {rng.choice([0, 1, 2, 5, 10, 99, 1000])}")
+            self.do(f"rebuild {rng.choice([*filling * 3, self.some_boundary()])} {rng.choice([0, 1, 2, 5, 10, 99, 1000])}")
 
     def act(self):
         rng = self.rng
@@ -408,24 +416,27 @@ class Trace:
         elif kind < 0.55:
             self.do("diffuse")
         elif kind < 0.7:
-            self.fail_one(False)
+            self.fail_one()
         elif kind < 0.9:
             self.refill()
         elif kind < 0.95:
             for block in rng.sample(range(self.array.n), 5):
                 self.do(f"write {block} -") if not self.array.sites[block] else None
         else:
-            self.do(rng.choice([f"fail {self.array.b} 0", "fail 0 2", f"write {self.array.n} 00", "rebuild 99 1"]))
+            s, j = self.some_boundary(), rng.randrange(3)
+            self.do(rng.choice([f"fail {s} 2", f"write {self.array.n} 00", "rebuild 99 1", "regroup", "save", f"drop {s} {j}", f"mend {s} {j}"]))
 
     def use(self):
         """Events that a settled array answers."""
         for _ in range(self.rng.randrange(12)):
-            self.rng.choice([self.ask, self.ask, self.ask, self.refill, lambda: self.fail_one(False), lambda: self.do("diffuse")])()
+            self.rng.choice([self.ask, self.ask, self.ask, self.refill, self.fail_one, lambda: self.do("diffuse")])()
 
     def step(self):
         rng = self.rng
         kind = rng.random()
-        if self.queue and kind < 0.75:
+        if rng.random() < self.often:
+            self.go_without()
+        elif self.queue and kind < 0.75:
             self.write_next()
         elif kind < 0.12 or self.queue and kind < 0.78:
             self.break_something()
@@ -442,22 +453,64 @@ class Trace:
         else:
             self.new_geometry()
 
-    def lose(self):
-        """A boundary is lost, and what is left is asked for."""
+    # losses
+
+    def settle_all(self):
+        """The image is written to its end and settled, and some files are read and copied."""
+        self.queue_goal()
+        while self.queue:
+            self.write_next()
+        self.do("settle")
+        self.use()
+        self.do("diffuse")
+
+    def lose_one(self):
+        """Both members of a boundary fail, at times with a refill between, and what is left is asked for."""
+        rng, array, j = self.rng, self.array, self.rng.randrange(2)
+        homes = [array.live[place] for place in array.homes.values()]
+        s = rng.choice(homes) if homes and rng.random() < 0.5 else self.some_boundary()
+        self.do(f"fail {s} {j}")
+        if rng.random() < 0.2:
+            self.do(f"replace {s} {j}")
+            self.do(f"rebuild {s} {rng.choice([0, 3, 1000])}")
+        self.do(f"fail {s} {1 - j}")
+        self.do(f"fail {s} {j}")
+        for _ in range(rng.randrange(6)):
+            self.ask()
+
+    def go_without(self):
+        """Boundaries are lost, and the array goes on without them, or can't."""
         rng = self.rng
-        if rng.random() < 0.8:
-            self.queue_goal()
-            while self.queue:
-                self.write_next()
+        if rng.random() < 0.6:
+            self.settle_all()
+        for _ in range(rng.choice([1, 1, 1, 2])):
+            self.lose_one()
+        self.do("regroup")
+        self.over = bool(self.array.lost())
+        if rng.random() < 0.7:
             self.do("settle")
-            self.use()
-            self.do("diffuse")
+            self.do("lostfiles")
+        for _ in range(rng.randrange(12)):
+            rng.choice([self.ask, self.ask, self.act, self.use, self.read_cut, self.write_cut])()
+
+    def read_cut(self):
+        if self.array.cut:
+            self.do(f"{self.rng.choice(['read', 'who'])} {self.rng.choice([*self.array.cut])}")
+
+    def write_cut(self):
+        if self.array.cut:
+            block = self.rng.choice([*self.array.cut])
+            self.write(block, self.goal[block])
+
+    def lose(self):
+        """Boundaries are lost at the end, and what is left is asked for."""
+        rng = self.rng
+        if not self.over and rng.random() < 0.8:
+            self.settle_all()
         for _ in range(rng.choice([1, 1, 2, 3])):
-            s = rng.randrange(self.array.b)
-            self.do(f"fail {s} 0")
-            self.do(f"fail {s} 1")
-            for _ in range(rng.randrange(6)):
-                self.ask()
+            self.lose_one()
+        if rng.random() < 0.5:
+            self.do("regroup")
         for path in rng.sample(self.paths, min(8, len(self.paths))):
             path = "/".join(spelled(name) for name in path.split(b"/"))
             for word in ("cat", "ls", "home"):
@@ -465,7 +518,6 @@ class Trace:
                     self.do(f"{word} {path}")
         for _ in range(rng.randrange(10)):
             rng.choice([self.ask, self.ask, self.act, self.break_something])()
-
 
     def end(self):
         """A last line that is damaged; an event where it is still one."""
@@ -504,7 +556,7 @@ def make(seed, events):
         if kind:
             return Case([], tail, [[f"line 1 {kind}"]])
     trace = Trace(seed)
-    while len(trace.lines) < events * 0.8:
+    while len(trace.lines) < events * 0.8 and not trace.over:
         trace.step()
     trace.lose()
     if rng.random() < 0.4:

@@ -1,8 +1,10 @@
 """A slow, plain reading of the array's definitions, without faults of devices: events in, the lines of replies out.
 
 The state is what the definitions say it is: the flat list of blocks, the sites of each block, marks, homes, copies, the
-phase, the inodes read last, and what each member does.
+phase, the inodes read last, which boundaries are in use, which blocks were cut, and what each member does. Boundaries are known by their
+places among those in use, and told by their numbers in the array's first line.
 """
+from findings import Audit
 from volume import Refused, Volume, letter
 
 GOOD, OUT = "good", "out"
@@ -30,12 +32,13 @@ class Array:
 
     def __init__(self, l, n, b, k, m):
         self.l, self.n, self.b, self.k, self.m = l, n, b, k, m
+        self.boundaries, self.live, self.cut = b, list(range(b)), set()
         self.blocks = [bytes(l)] * n
         self.sites = [[] for _ in range(n)]
         self.members = [[GOOD, GOOD] for _ in range(b)]
         self.pending = set()
         self.homes, self.copies, self.recent = {}, {}, []
-        self.settled = False
+        self.settled = self.worn = False
         self.saves = 0
         self.volume = Volume(tuple(self.blocks), l)
 
@@ -48,11 +51,27 @@ class Array:
     # members and sites
 
     def lost(self):
+        """The places of the lost boundaries."""
         return [s for s in range(self.b) if GOOD not in self.members[s]]
+
+    def lost_reply(self):
+        return f"lost {self.live[self.lost()[0]]}"
+
+    def place(self, boundary):
+        """The place of a boundary; None of one that isn't in use."""
+        return self.live.index(boundary) if boundary in self.live else None
+
+    def is_lost(self, boundary):
+        """Whether the boundary of this number is lost, or not in use."""
+        return self.place(boundary) in [None, *self.lost()]
 
     def is_gone(self, block):
         lost = self.lost()
         return bool(self.sites[block]) and all(boundary in lost for boundary, _ in self.sites[block])
+
+    def is_missing(self, block):
+        """Whether a block is gone to who reads it: also where it was cut."""
+        return block in self.cut or self.is_gone(block)
 
     def is_written(self, block):
         return bool(self.sites[block])
@@ -89,8 +108,19 @@ class Array:
         self.take(block, boundary)
 
     def set_block(self, block, value):
-        self.blocks[block] = value
+        self.set_blocks([block], value)
+
+    def set_blocks(self, blocks, value):
+        for block in blocks:
+            self.blocks[block] = value
         self.volume = Volume(tuple(self.blocks), self.l)
+
+    def mark_pending(self, blocks):
+        """Of these blocks those are pending that are neither of the file system itself nor claimed."""
+        self.pending = blocks - self.volume.system_blocks() - self.volume.claims.keys()
+
+    def phase(self):
+        return "worn" if self.worn else "settled" if self.settled else "loose"
 
     # blocks
 
@@ -103,7 +133,8 @@ class Array:
         if not self.sites[block]:
             self.take_first(block)
         self.set_block(block, bytes.fromhex("" if digits == "-" else digits).ljust(self.l, b"\0"))
-        self.pending = (self.pending | {block}) - self.volume.system_blocks() - self.volume.claims.keys()
+        self.mark_pending(self.pending | {block})
+        self.cut.discard(block)
         self.copies = {}
         self.settled = False
         return "ok"
@@ -111,7 +142,7 @@ class Array:
     def do_read(self, block):
         if block >= self.n:
             return "range"
-        if self.is_gone(block):
+        if self.is_missing(block):
             return "unavailable"
         return "data " + (self.blocks[block].rstrip(b"\0").hex() or "-")
 
@@ -124,6 +155,8 @@ class Array:
     def do_who(self, block):
         if block >= self.n:
             return "range"
+        if self.worn:
+            return "unavailable"
         volume = self.volume
         if volume.geometry:
             if volume.is_system(block):
@@ -146,35 +179,38 @@ class Array:
     # failures and refills
 
     def do_fail(self, s, j):
-        if s >= self.b or j >= 2:
+        if s >= self.boundaries or j >= 2:
             return "range"
-        if self.members[s][j] == OUT:
+        place = self.place(s)
+        if place is None or self.members[place][j] == OUT:
             return "already"
-        self.members[s][j] = OUT
-        if isinstance(self.members[s][1 - j], Filling):
-            self.members[s][1 - j] = OUT
+        self.members[place][j] = OUT
+        if isinstance(self.members[place][1 - j], Filling):
+            self.members[place][1 - j] = OUT
         return "ok"
 
     def do_replace(self, s, j):
-        if s >= self.b or j >= 2:
+        if s >= self.boundaries or j >= 2:
             return "range"
-        if s in self.lost():
+        if self.is_lost(s):
             return f"lost {s}"
-        if self.members[s][j] != OUT:
+        place = self.place(s)
+        if self.members[place][j] != OUT:
             return "not out"
-        self.members[s][j] = Filling()
+        self.members[place][j] = Filling()
         return "ok"
 
     def do_rebuild(self, s, n):
-        if s >= self.b:
+        if s >= self.boundaries:
             return "range"
-        if s in self.lost():
+        if self.is_lost(s):
             return f"lost {s}"
+        s = self.place(s)
         side = next((j for j in (0, 1) if isinstance(self.members[s][j], Filling)), None)
         if side is None:
             return "not filling"
         member = self.members[s][side]
-        may_reap, copied = not self.lost(), 0
+        may_reap, copied = not self.lost() and not self.worn, 0
         while member.have <= self.k:
             block = self.slots_of(s).get(member.have)
             if block is not None:
@@ -190,6 +226,52 @@ class Array:
         if member.have > self.k:
             self.members[s][side] = GOOD
         return f"copied {copied} {left}"
+
+    # going on without the lost boundaries
+
+    def do_regroup(self):
+        lost = self.lost()
+        if not lost:
+            return "whole"
+        left = [place for place in range(self.b) if place not in lost]
+        if len(left) < self.m or len(left) < 2 or len(left) * self.k < self.n:
+            return "too few"
+        gone = [block for block in range(self.n) if self.is_gone(block)]
+        self.keep(left)
+        self.cut.update(gone)
+        self.set_blocks(gone, bytes(self.l))
+        self.mark_pending(self.pending - set(gone))
+        return f"regrouped {len(lost)} {len(gone)}"
+
+    def keep(self, left):
+        """The boundaries at these places stay in use, in their order; all else that names a boundary goes or moves."""
+        place = {old: new for new, old in enumerate(left)}
+        self.b, self.live = len(left), [self.live[old] for old in left]
+        self.members = [[GOOD if member == GOOD else OUT for member in self.members[old]] for old in left]
+        self.sites = [[(place[s], slot) for s, slot in sites if s in place] for sites in self.sites]
+        homes = {inode: home if home in place else self.copies.get(inode) for inode, home in self.homes.items()}
+        self.homes = {inode: place[home] for inode, home in homes.items() if home in place}
+        self.copies, self.settled, self.worn = {}, False, False
+
+    def do_lostfiles(self):
+        if not self.settled:
+            return "not settled"
+        entries, refusal = self.reading(self.volume.tree)
+        if refusal:
+            return refusal
+        owners = {self.volume.owner(block) for block in self.cut}
+        names, lines = [], []
+        for depth, entry, inode in entries:
+            names = names[:depth - 1] + ["/" + spelled(entry.name)]
+            if letter(inode) == "r" and entry.inode in owners:
+                lines.append(f"lost {entry.inode} " + "".join(names))
+        return lines + [f"end {len(lines)}"]
+
+    def do_drop(self, s, j):
+        return "not parity"
+
+    def do_mend(self, s, j):
+        return "not parity"
 
     # the plan and the moves
 
@@ -279,7 +361,7 @@ class Array:
 
     def do_settle(self):
         if self.lost():
-            return f"lost {self.lost()[0]}"
+            return self.lost_reply()
         if self.settled:
             return "settled"
         bad = self.volume.first_malformation()
@@ -295,7 +377,7 @@ class Array:
 
     def do_tend(self, n):
         if self.lost():
-            return f"lost {self.lost()[0]}"
+            return self.lost_reply()
         if self.settled:
             return "tended 0 0"
         plan, refusal = self.plan()
@@ -308,7 +390,7 @@ class Array:
         if not self.settled:
             return "not settled"
         if self.lost():
-            return f"lost {self.lost()[0]}"
+            return self.lost_reply()
         files, new = self.files(), 0
         for inode in self.recent:
             if inode in self.homes and inode not in self.copies:
@@ -330,7 +412,7 @@ class Array:
             answer, refusal = read(seen), None
         except Refused as refused:
             answer, refusal = None, str(refused)
-        if any(self.is_gone(block) for block in set(seen)):
+        if any(self.is_missing(block) for block in set(seen)):
             return None, "unavailable"
         return answer, refusal
 
@@ -366,9 +448,17 @@ class Array:
         if refusal:
             return refusal
         home, copy = self.homes.get(found[0]), self.copies.get(found[0])
-        return "home none" if home is None else f"home {home}" + ("" if copy is None else f" copy {copy}")
+        if home is None:
+            return "home none"
+        return f"home {self.live[home]}" + ("" if copy is None else f" copy {self.live[copy]}")
+
+    def do_audit(self):
+        audit = Audit(self.blocks, self.l)
+        return "unavailable" if any(map(self.is_gone, audit.structure())) else audit.lines()
 
     def do_save(self):
+        if self.b < self.boundaries:
+            return "not saved"
         if all(GOOD not in pair for pair in self.members):
             return "lost 0"
         self.saves += 1

@@ -124,8 +124,21 @@ def test():
     Row().quietly(writes(F)).gives(("settle", "settled")).quietly(writes(E, [24, 28, 33])).gives(
         ("who 34", "dead"), ("fail 3 0", "ok"), ("replace 3 0", "ok"), ("rebuild 3 99", "copied 0 0"), ("who 34", "idle"),
         ("read 34", "data -"), ("who 36", "dead"))
+    test_regroup()
     test_malformed()
     print("all rows hold")
+
+
+def test_regroup():
+    lost = [("fail 2 0", "ok"), ("fail 2 1", "ok")]
+    Row().quietly(writes(F)).gives(("settle", "settled"), *lost).gives(
+        ("regroup", "regrouped 1 53"), ("lostfiles", "not settled"), ("settle", "settled"), ("lostfiles", "lost 5 /d/b", "end 1"),
+        ("cat /d/b", "unavailable"), ("cat /a", "bytes 68656c6c6f", "end 5"), ("fail 0 0", "ok"), ("fail 0 1", "ok"),
+        ("cat /z", "end 0"), ("regroup", "regrouped 1 0"), ("save", "not saved"), ("write 36 -", "ok"), ("read 36", "data -"),
+        ("fail 2 0", "already"), ("replace 2 0", "lost 2"), ("rebuild 0 1", "lost 0"), ("fail 4 0", "range"),
+        ("fail 1 0", "ok"), ("fail 1 1", "ok"), ("regroup", "too few"), ("drop 3 0", "not parity"), ("mend 3 0", "not parity"),
+    )
+    Row(1024, 64, 4, 32, 2).gives(("regroup", "whole"), ("fail 1 0", "ok"), ("regroup", "whole"))
 
 
 def test_malformed():

@@ -26,18 +26,6 @@ SECONDS = 120
 LABEL = struct.Struct("<7scQcBBB6I")
 
 
-class Worn(Array):
-    """An array in any phase, also one that was opened with a lost boundary, of whose blocks it isn't known what they belong to."""
-
-    worn = False
-
-    def do_who(self, block):
-        return "unavailable" if block < self.n and self.worn else super().do_who(block)
-
-    def phase(self):
-        return "worn" if self.worn else "settled" if self.settled else "loose"
-
-
 def numbers(*values):
     return b"".join(struct.pack("<I", value) for value in values)
 
@@ -59,6 +47,12 @@ def body_of(array, good):
 
 def good_members(array):
     return [member == GOOD for pair in array.members for member in pair]
+
+
+def is_good(array, member):
+    """Whether the member of this number, by the array's first line, is good."""
+    place = array.place(member // 2)
+    return place is not None and array.members[place][member % 2] == GOOD
 
 
 def image_name(member):
@@ -144,7 +138,7 @@ class Round:
         elif word == "array" or word == "write" and last == ["ok"] or word == "replace" and last == ["ok"]:
             self.wrote = True
             if word == "array":
-                self.labels = dict.fromkeys(range(2 * self.array.b), 0)
+                self.labels = dict.fromkeys(range(2 * self.array.boundaries), 0)
             elif word == "replace":
                 s, j = map(int, line.split(" ")[1:])
                 self.labels[2 * s + j] = 0
@@ -153,12 +147,14 @@ class Round:
             self.may_have |= word != "tend"
         elif word == "settle" and last == ["settled"]:
             self.may_have = True
+        elif word == "regroup" and (last[0] == "regrouped" or last == ["too", "few"] and any(good_members(self.array))):
+            self.wrote = True
 
     def replies(self, lines):
         told = []
         for line in lines:
             if line.startswith("array "):
-                self.array = Worn(*map(int, line.split(" ")[1:]))
+                self.array = Array(*map(int, line.split(" ")[1:]))
                 told.append(["ok"])
             else:
                 before = sum(map(len, self.array.sites))
@@ -200,7 +196,7 @@ class Round:
             array, _, body = self.saved[number]
             self.see(f"the format and the array on {name}", (b"2", (array.l, array.n, array.b, array.k, array.m)), (label.form, label.shape))
             if number == self.last:
-                if self.wrote and self.array.members[member // 2][member % 2] == GOOD:
+                if self.wrote and is_good(self.array, member):
                     self.see(f"the seal of {name}", False, label.sealed)
                 if not (self.wrote or self.may_have):
                     self.see(f"the seal of {name}", True, label.sealed)
@@ -208,7 +204,7 @@ class Round:
                 self.see(f"the body on {name}", body, label.body(image))
 
     def take_away(self):
-        rng, b = self.rng, self.array.b
+        rng, b = self.rng, self.array.boundaries
         kind = rng.random()
         gone = [] if kind < 0.3 else rng.sample(range(2 * b), rng.randrange(1, 3)) if kind < 0.6 else []
         if kind >= 0.6:
@@ -311,10 +307,13 @@ class Round:
             path = rng.choice(self.paths)
             lines.append(rng.choice([
                 f"read {block}", f"who {block}", "pending", f"cat {path}", f"ls {path}", f"home {path}", "tree", "settle", "diffuse",
-                f"tend {rng.randrange(4)}", f"rebuild {rng.randrange(array.b)} {rng.choice([0, 1, 5, 1000])}",
+                "regroup", "lostfiles", "audit", f"drop {block} 0", f"mend 0 {block}", f"tend {rng.randrange(4)}", f"rebuild {rng.randrange(array.b)} {rng.choice([0, 1, 5, 1000])}",
                 f"replace {rng.randrange(array.b)} {rng.randrange(2)}", f"fail {rng.randrange(array.b)} {rng.randrange(2)}",
                 "write {} {}".format(block, bytes(rng.randrange(256) for _ in range(rng.randrange(1, 9))).hex()),
             ]))
+        if rng.random() < 0.4:
+            at = rng.randrange(len(lines) + 1)
+            lines[at:at] = ["regroup", "settle", "lostfiles"]
         return lines
 
 

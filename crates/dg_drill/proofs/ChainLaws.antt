@@ -45,6 +45,7 @@ module _ {R : Type 0} (rack : Ghosts R) where
     well = well;
     shape = refl;
     boundaries = refl;
+    live = refl;
     line = refl;
     rise = record { faults = λ q. omega arith; calls = omega arith; writes = omega arith };
     tells = λ q told. told;
@@ -58,6 +59,7 @@ module _ {R : Type 0} (rack : Ghosts R) where
     well = other.well;
     shape = other.shape ∙ one.shape;
     boundaries = other.boundaries ∙ one.boundaries;
+    live = other.live ∙ one.live;
     line = other.line ∙ one.line;
     rise = record {
       faults = λ q. let early = one.rise.faults q in let late = other.rise.faults q in omega arith;

@@ -1,13 +1,15 @@
 -- What reading members leaves of a rack, call after call.
-use Rattle.std.proofs.Common.{◌≡◌, inl, inr, ℕ, ◌≤◌, Bool, List, length, refl, sym, ◌∙◌, subst, arith}
+use Rattle.std.proofs.Common.{◌≡◌, inl, inr, ℕ, ◌≤◌, Bool, List, [], ◌∷◌, length, refl, sym, ◌∙◌, subst, arith}
 use Rattle.std.specs.Prelude.{◌==◌, Option, Some, None, Result, IfSome, IsSome}
 use Rattle.std.proofs.lemmas.Bool.{cases_eq, false≢true}
+use Rattle.dg_io.specs.MakesLaws.{makes_both, makes_none, makes_only}
+use Rattle.dg_io.specs.OnlyLaws.{only_one}
 use Rattle.dg_io.specs.RackCalls.{RackCall}
 use Rattle.dg_io.specs.RackWords.{After, Leaves}
 use Rattle.dg_io.specs.Told.{IsSame, Told}
 use Rattle.dg_io.specs.declared.outside.Rack.{Ghosts}
 use Rattle.dg_model.specs.Causes.{Rose}
-use Rattle.dg_open.specs.Reopenings.{LeavesRead}
+use Rattle.dg_open.specs.Reopenings.{IsCallOfOpening, LeavesRead}
 use Rattle.dg_open.specs.Seen.{HasFailed, HasNotFailed, IsLabeledBy, IsMeasured, IsSeen, ReadsOne}
 use Rattle.dg_model.specs.Saves.{member_length}
 use Rattle.dg_save.specs.declared.labels.Label.{Label}
@@ -67,6 +69,7 @@ module _ {R : Type 0} (rack : Ghosts R) where
     same_rack = refl;
     steady_on = ((λ h. h), (λ h. h));
     told_before = λ q tells. tells;
+    made = makes_none rack IsCallOfOpening s;
   }
 
   pub reads_both : (a b c : R) → LeavesRead rack a b → LeavesRead rack b c → LeavesRead rack a c
@@ -82,6 +85,7 @@ module _ {R : Type 0} (rack : Ghosts R) where
     same_rack = two.same_rack ∙ one.same_rack;
     steady_on = ((λ h. two.steady_on.0 (one.steady_on.0 h)), (λ h. one.steady_on.1 (two.steady_on.1 h)));
     told_before = λ q tells. one.told_before q (two.told_before q tells);
+    made = makes_both rack IsCallOfOpening a b c one.made two.made;
   }
 
   pub one_none : (member : ℕ) (s : R) → ReadsOne rack member s s
@@ -95,10 +99,10 @@ module _ {R : Type 0} (rack : Ghosts R) where
   }
 
   -- a call that leaves the member's bytes, and writes nothing
-  pub one_call : ((a b : R) (calls : List RackCall) → rack.made a calls b → After rack calls a b) → {T E : Type 0} (member : ℕ) (result : Result T E) (old new : R) (calls : List RackCall)
-      → rack.made old calls new → Leaves rack member result old new
-      → Told IsSame (rack.bytes old member) (rack.bytes new member) → (rack.counts new).writes ≡ (rack.counts old).writes → ReadsOne rack member old new
-  one_call after member result old new calls made leaves same writes = record {
+  pub one_call : ((a b : R) (calls : List RackCall) → rack.made a calls b → After rack calls a b) → {T E : Type 0} (member : ℕ) (result : Result T E) (old new : R) (call : RackCall)
+      → rack.made old (call ∷ []) new → Leaves rack member result old new
+      → Told IsSame (rack.bytes old member) (rack.bytes new member) → (rack.counts new).writes ≡ (rack.counts old).writes → IsCallOfOpening call → ReadsOne rack member old new
+  one_call after member result old new call made leaves same writes is = record {
     leaves = record {
       rise = leaves.rise;
       writes = writes;
@@ -109,7 +113,8 @@ module _ {R : Type 0} (rack : Ghosts R) where
       tells = leaves.tells;
       same_rack = leaves.same_rack;
       steady_on = leaves.steady_on;
-      told_before = (after old new calls made).told_before;
+      told_before = (after old new (call ∷ []) made).told_before;
+      made = makes_only rack IsCallOfOpening old new (only_one rack IsCallOfOpening call old new is made);
     };
     other_faults = leaves.other_faults;
     others_stand = leaves.others_stand;

@@ -8,7 +8,7 @@ use Rattle.std.proofs.lemmas.Nat.Bits.{bit_at-zero}
 use Rattle.dg_io.specs.Commits.{is_marked as has_bit}
 use Rattle.dg_io.specs.declared.outside.Rack.{Ghosts}
 use Rattle.dg_model.specs.Marks.{is_marked}
-use Rattle.dg_open.proofs.ReadLemmas.{failed_before, failed_on, labeled_on, measured_on, reads_both, seen_before, seen_on, told_on}
+use Rattle.dg_open.proofs.ReadLemmas.{failed_before, failed_on, labeled_on, measured_on, reads_both, reads_none, seen_before, seen_on, told_on}
 use Rattle.dg_open.specs.Reopenings.{LeavesRead}
 use Rattle.dg_open.specs.Seen.{AllStand, AreFailed, AreLabeled, AreMeasured, AreQuiet, AreSealed, AreSeen, HasFailed, HasNotFailed, HasNumber, HasOpened, IsFirst, IsGreatestOf, IsLabeledBy, IsLater, IsMeasured, IsSeen}
 use Rattle.dg_open.specs.Seen.{Marks, NoneMarked, QuietBut, ReadsOne, SayNone, SaysAt, SaysNone, StandBut, label_at}
@@ -22,6 +22,11 @@ set_here table m found within = get_or-set_same table m found None within
 
 pub set_there : (table : List (Option Label)) (m q : ℕ) (found : Option Label) → q ≢ m → label_at (slice_set table m found) q ≡ label_at table q
 set_there table m q found other = get_or-set_other table m q found None other
+
+-- ---- no member was looked for
+
+pub none_seen : {R : Type 0} (rack : Ghosts R) (start : R) (table : List (Option Label)) → length table ≡ 32 → AreSeen rack start start table 0
+none_seen rack start table size = record { seen = λ q low. absurd (omega (arith, low)); leaves = reads_none rack start; size = size }
 
 -- ---- one member more was found
 
@@ -191,6 +196,19 @@ pub record Walked {R : Type 0} (rack : Ghosts R) (start now : R) (table : List (
   pub quiet : QuietBut rack start now failed
   pub clear : NoneMarked failed m
   pub size : length failed ≡ 32
+
+pub none_walked : {R : Type 0} (rack : Ghosts R) (start : R) (table : List (Option Label)) (greatest : ℕ) (failed : List Bool) → AreLabeled rack start table
+    → AllStand rack start table 32 → NoneMarked failed 0 → length failed ≡ 32 → Walked rack start start table greatest failed 0
+none_walked rack start table greatest failed labeled stand clear size = record {
+  leaves = reads_none rack start;
+  labeled = labeled;
+  none = λ q label low number. absurd (omega (arith, low));
+  stand = λ q low some not. stand q low some;
+  fails = λ q marked. absurd (false≢true (sym (clear q (omega arith)) ∙ marked));
+  quiet = λ q not. refl;
+  clear = clear;
+  size = size;
+}
 
 marked_there : (failed : List Bool) (m q : ℕ) → q ≢ m → is_marked (slice_set failed m true) q ≡ is_marked failed q
 marked_there failed m q other = get_or-set_other failed m q true false other

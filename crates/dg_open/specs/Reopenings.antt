@@ -1,5 +1,8 @@
 -- What opening the array of a rack gives, by its answer.
 use Rattle.std.specs.Prelude.{◌≡◌, ◌⊎◌, ◌<◌, ◌==◌, ◌&&◌, ◌↔◌, ℕ, true, Option, Some, length}
+use Rattle.dg_io.specs.Makes.{Makes}
+use Rattle.dg_io.specs.RackCalls.{RackCall}
+use Rattle.dg_io.specs.RackCalls.RackCall.{looks, blanks, calls}
 use Rattle.dg_io.specs.Told.{IsSame, StillTold, Told}
 use Rattle.dg_io.specs.declared.outside.Rack.{Ghosts}
 use Rattle.dg_label.specs.Labels.{IsLabeled, StandsLabeled}
@@ -18,8 +21,14 @@ use Rattle.dg_save.specs.States.{state_of}
 use Rattle.dg_store.specs.Stores.{IsSound, members_of, rack_of, shape_of, table_of}
 use Rattle.dg_store.specs.declared.store.Store.{Store}
 
+-- a call that looks for one of the members 0 to 31, or reads it
+abbrev pub IsCallOfOpening : RackCall → Type 0
+IsCallOfOpening (looks q) = q < 32
+IsCallOfOpening (blanks q) = ⊥
+IsCallOfOpening (calls q) = q < 32
+
 -- What finding and reading members leaves of a rack: it is the same, no count fell, nothing was written, each member that tells its bytes has
--- those that it had, what tells its bytes did so before, and the rack is steady or not as it was.
+-- those that it had, what tells its bytes did so before, and the rack is steady or not as it was. Only members 0 to 31 were called.
 pub record LeavesRead {R : Type 0} (rack : Ghosts R) (before now : R) : Type 0 where
   pub rise : CountsRise (rack.counts before) (rack.counts now)
   pub writes : (rack.counts now).writes ≡ (rack.counts before).writes
@@ -28,6 +37,7 @@ pub record LeavesRead {R : Type 0} (rack : Ghosts R) (before now : R) : Type 0 w
   pub same_rack : rack.name now ≡ rack.name before
   pub steady_on : rack.steady before ↔ rack.steady now
   pub told_before : (q : ℕ) → rack.tells now q → rack.tells before q
+  pub made : Makes rack IsCallOfOpening before now
 
 -- what was taken of the members of a rack
 abbrev pub AreReadOf : {R : Type 0} → Ghosts R → R → R → (ℕ → Option Found) → Type 0

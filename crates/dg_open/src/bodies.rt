@@ -113,6 +113,7 @@ fn read_body<R: Rack>(
     label: &Label,
     member: u8,
 ) -> Result<Option<Vec<u8>>, NoMemory>
+    requires within { member < 32 }
     requires labeled { IsLabeledBy R.Rack rack.old member label.now }
     requires stands { R.stands rack.old member ≡ true }
     ensures reads { IfOk result (λ found. ReadsOne R.Rack member rack.old rack.new) }

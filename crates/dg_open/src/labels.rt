@@ -70,6 +70,7 @@ fn note_length(found: &Option<Label>, member: u8, length: u64, long: &mut u32)
 
 /// Finds a member that has room for a label, and answers its length. `None` for another one, and where the call fails.
 fn attach<R: Rack>(rack: &mut R, member: u8) -> Option<u64>
+    requires within { member < 32 }
     ensures reads { ReadsOne R.Rack member rack.old rack.new }
     ensures is { MatchOption result (IsShort R.Rack rack.old rack.new member) (IsAttached R.Rack rack.new member) }
     ensures quiet { IsSome result → HasNotFailed R.Rack rack.old rack.new member }
@@ -99,7 +100,8 @@ fn with_room(found: Option<u64>) -> Option<u64>
 
 /// The label of its own that a member of this length has.
 fn label_on<R: Rack>(rack: &mut R, member: u8, length: u64) -> Option<Label>
-    requires { IsAttached R.Rack rack.old member length }
+    requires within { member < 32 }
+    requires attached { IsAttached R.Rack rack.old member length }
     ensures reads { ReadsOne R.Rack member rack.old rack.new }
     ensures seen { IsSeen R.Rack rack.old rack.new member result }
     ensures long { IsSome result → IsAsLong R.Rack rack.new member length }
@@ -114,7 +116,8 @@ fn label_on<R: Rack>(rack: &mut R, member: u8, length: u64) -> Option<Label>
 
 /// The first bytes of a member of this length. `None` where the call fails.
 fn read_head<R: Rack>(rack: &mut R, member: u8, length: u64) -> Option<[u8; LABEL_BYTES]>
-    requires { IsAttached R.Rack rack.old member length }
+    requires within { member < 32 }
+    requires attached { IsAttached R.Rack rack.old member length }
     ensures reads { ReadsOne R.Rack member rack.old rack.new }
     ensures is { MatchOption result (HasFailed R.Rack rack.old rack.new member) (HasHead R.Rack rack.new member length) }
     ensures quiet { IsSome result → HasNotFailed R.Rack rack.old rack.new member }

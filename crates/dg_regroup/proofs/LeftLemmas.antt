@@ -43,7 +43,14 @@ dropped_more lost x live is =
     let e : places_left lost (x + 1) ≡ places_left lost x ++ [] = left_more lost x ∙ ap (λ (b : Bool). places_left lost x ++ (if b then x ∷ [] else [])) is in
     ap (λ (left : List ℕ). live_left left live) (e ∙ append-nil (places_left lost x))
 
-range_ascends : (n : ℕ) → IsStrictlyIncreasing (range_with_len 0 n)
+-- one number more
+pub range_more : (n : ℕ) → range_with_len 0 (n + 1) ≡ range_with_len 0 n ++ n ∷ []
+range_more n =
+    ap (λ (k : ℕ). range_with_len 0 k) (add-one n)
+    ∙ range_last 0 n
+    ∙ ap (λ (k : ℕ). range_with_len 0 n ++ k ∷ []) (zero-add n)
+
+pub range_ascends : (n : ℕ) → IsStrictlyIncreasing (range_with_len 0 n)
 range_ascends n k low =
     let long = length-range_with_len 0 n in
     omega (arith, get_or-range_with_len 0 n k 0 (omega (arith, low, long)), get_or-range_with_len 0 n (k + 1) 0 (omega (arith, low, long)))
@@ -51,7 +58,7 @@ range_ascends n k low =
 pub places_ascend : (lost n : ℕ) → IsStrictlyIncreasing (places_left lost n)
 places_ascend lost n = IsStrictlyIncreasing-filter (λ s. bit_at lost s == 0) (range_with_len 0 n) (range_ascends n)
 
-range_low : (n : ℕ) → All (λ x. x < n) (range_with_len 0 n)
+pub range_low : (n : ℕ) → All (λ x. x < n) (range_with_len 0 n)
 range_low n k d low =
     let long = length-range_with_len 0 n in
     let within : k < n = omega (arith, low, long) in

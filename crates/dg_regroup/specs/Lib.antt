@@ -10,6 +10,7 @@ pub mod FrontRacks
 pub mod LiveGhosts
 pub mod LiveLaws
 pub mod LiveMade
+pub mod LivePassing
 pub mod LivePlaces
 pub mod LiveRacks
 pub mod Marks

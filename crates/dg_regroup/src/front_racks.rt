@@ -53,6 +53,14 @@ impl<R> FrontRack<R> {
         }
     }
 
+    /// The rack below.
+    pub fn into_rack(self) -> R
+        ensures { result ≡ rack_behind self }
+    {
+        let FrontRack { rack, .. } = self;
+        rack
+    }
+
     /// The length that is found of a member, by its whole length.
     fn seen(&self, member: u8, found: Option<u64>) -> Option<u64>
         ensures { result ≡ seen (is_front self.now member) (front_length self.now) found }

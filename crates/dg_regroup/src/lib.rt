@@ -18,3 +18,4 @@ pub use extras::{Extra, read_extra, write_extra};
 pub use front_racks::FrontRack;
 pub use laws::{extra_bytes_are_unique, gone_blocks_are_cut, names_tell_boundaries};
 pub use live_racks::LiveRack;
+pub use lives::numbers_below;

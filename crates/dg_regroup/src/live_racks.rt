@@ -1,13 +1,15 @@
 // A rack of the boundaries in use.
-ghost use Rattle.std.specs.Prelude.{◌≡◌, ◌≢◌, ◌<◌, ◌≤◌, All, IfNone, IfSome, IsErr, length, slice_index, true, false};
+ghost use Rattle.std.specs.Prelude.{◌≡◌, ◌≢◌, ◌<◌, ◌≤◌, All, IfNone, IfOk, IfSome, IsErr, length, slice_index, true, false};
 ghost use Rattle.std.specs.List.Sorted.{IsStrictlyIncreasing};
 ghost use Rattle.dg_model.specs.Causes.{Rose, RoseByOne};
-ghost use Rattle.dg_model.specs.Lives.{member_at};
+ghost use Rattle.dg_model.specs.Lives.{all_live, member_at};
 
 use crate::FrontRack;
-use crate::lives::drop_marked;
+use crate::lives::{drop_marked, numbers_below};
 use crate::marks::{answer_here, marks_below, number_at};
 use dg_io::{Checkpoint, CommitAnswer, Disks, DropAnswer, Failed, MendAnswer, Rack, Reduces};
+use dg_model::NoMemory;
+use std::alloc::Global;
 
 const MEMBERS: usize = 256;
 
@@ -29,10 +31,10 @@ pub struct LiveRack<R> {
 }
 
 impl<R> LiveRack<R> {
-    ghost use Rattle.std.specs.Prelude.{◌≡◌, ◌≢◌, ◌<◌, ◌≤◌, All, IfNone, IfSome, IsErr, length, slice_index, true, false, ℕ};
+    ghost use Rattle.std.specs.Prelude.{◌≡◌, ◌≢◌, ◌<◌, ◌≤◌, All, IfNone, IfOk, IfSome, IsErr, length, slice_index, true, false, ℕ};
     ghost use Rattle.std.specs.List.Sorted.{IsStrictlyIncreasing};
     ghost use Rattle.dg_model.specs.Causes.{Rose, RoseByOne};
-    ghost use Rattle.dg_model.specs.Lives.{member_at};
+    ghost use Rattle.dg_model.specs.Lives.{all_live, member_at};
     ghost use Rattle.dg_regroup.specs.FrontRacks.{front_length, HasNoneRefused, is_front, rack_behind};
     ghost use Rattle.dg_regroup.specs.LiveRacks.{AreOwn, HasNoneAbsent, is_there, live_in, rack_in};
 
@@ -66,6 +68,26 @@ impl<R> LiveRack<R> {
         ensures none { HasNoneAbsent result }
     {
         LiveRack::new(FrontRack::new(rack, length), live)
+    }
+
+    /// A rack of all 16 boundaries that there may be of a rack.
+    pub fn of_all(alloc: Global, rack: R) -> Result<LiveRack<R>, NoMemory>
+    where
+        R: Drop,
+        ensures rack { IfOk result (λ it. rack_in it ≡ rack) }
+        ensures live { IfOk result (λ it. live_in it ≡ all_live 16) }
+        ensures none { IfOk result (λ it. HasNoneAbsent it) }
+    {
+        let live = numbers_below(alloc, 16)?;
+        Ok(LiveRack::new(rack, live))
+    }
+
+    /// The rack below.
+    pub fn into_rack(self) -> R
+        ensures { result ≡ rack_in self }
+    {
+        let LiveRack { rack, .. } = self;
+        rack
     }
 
     /// The boundaries in use, ascending, by their numbers in the rack below.

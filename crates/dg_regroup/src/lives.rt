@@ -1,10 +1,27 @@
 // Lists of boundaries in use.
-ghost use Rattle.std.specs.Prelude.{◌≡◌, ◌↔◌, ◌<◌, ◌==◌, All, IsTrue, length};
+ghost use Rattle.std.specs.Prelude.{◌≡◌, ◌↔◌, ◌<◌, ◌==◌, All, IfOk, IsTrue, length};
 ghost use Rattle.std.specs.Int.{bit_at};
 ghost use Rattle.std.specs.List.Sorted.{IsStrictlyIncreasing};
 ghost use Rattle.dg_io.specs.Reduced.{places_left};
+ghost use Rattle.dg_model.specs.Lives.{all_live};
 ghost use Rattle.dg_regroup.specs.Extras.{MayBeLive};
 ghost use Rattle.dg_regroup.specs.LiveRacks.{live_left};
+
+use dg_model::NoMemory;
+use std::alloc::Global;
+
+/// The numbers below one.
+pub fn numbers_below(alloc: Global, count: u8) -> Result<Vec<u8>, NoMemory>
+    ensures { IfOk result (λ numbers. numbers.items ≡ all_live count) }
+{
+    let mut numbers = Vec::new(alloc);
+    for number in 0..count {
+        let Ok(()) = numbers.push(number) else {
+            return Err(NoMemory);
+        };
+    }
+    Ok(numbers)
+}
 
 /// Whether a boundary is lost: its bit is set.
 pub fn is_lost(lost: u16, s: usize) -> bool

@@ -3,7 +3,7 @@
 use dg_io::{
     Checkpoint, CommitAnswer, Disks, DropAnswer, Failed, MemRack, MendAnswer, Rack, Reduces,
 };
-use dg_regroup::{LiveRack, read_extra};
+use dg_regroup::{FrontRack, LiveRack, read_extra};
 use std::alloc::Global;
 use std::process::Abort;
 use std::test::Fail;
@@ -71,5 +71,23 @@ fn plain_racks_stay_plain(rt: HostRuntime) -> Result<(), Fail> {
         fell: 0,
     };
     assert_eq!(rt; rack.commit(0, b""), none);
+    Ok(())
+}
+
+// All 16 boundaries that there may be are in use, and the racks below come back as they are.
+#[test]
+fn a_rack_of_all_boundaries_gives_its_rack_back(rt: HostRuntime) -> Result<(), Fail> {
+    let alloc = rt.alloc();
+    let below = MemRack::new(alloc, 32, 64, Vec::new(alloc))?;
+    let mut rack = LiveRack::of_all(alloc, FrontRack::new(below, 8))?;
+    assert_eq!(rt;
+        rack.live(),
+        b"\0\x01\x02\x03\x04\x05\x06\x07\x08\t\n\x0b\x0c\r\x0e\x0f".as_slice()
+    );
+    assert_eq!(rt; rack.blank(31, 16), Ok(()));
+    assert_eq!(rt; rack.attach(32), Ok(None));
+    let mut below = rack.into_rack().into_rack();
+    assert_eq!(rt; below.attach(31), Ok(Some(16)));
+    assert_eq!(rt; below.attach(30), Ok(Some(0)));
     Ok(())
 }

@@ -1,30 +1,23 @@
 -- An array makes a step where its volume does.
-use Rattle.std.proofs.Common.{◌≡◌, ◌∙◌, ◌<◌, ◌/◌, ℕ, List, ap, refl, sym, subst}
+use Rattle.std.proofs.Common.{◌≡◌, ◌⊎◌, ◌∙◌, ◌<◌, ℕ, List, ap, inl, inr, length, refl, sym, subst}
 use Rattle.dg_io.specs.declared.outside.Rack.{Ghosts}
 use Rattle.dg_model.proofs.StepLaws.{StaysInUse, step_keeps}
 use Rattle.dg_model.specs.Marks.{marked}
 use Rattle.dg_model.specs.States.{State}
 use Rattle.dg_model.specs.Steps.{Step}
 use Rattle.dg_model.specs.declared.events.Event.{Event}
-use Rattle.dg_model.specs.declared.events.Event.TheVariants.{Pending}
+use Rattle.dg_model.specs.declared.events.Event.TheVariants.{DropDisk, MendDisk, Pending, Save}
 use Rattle.dg_model.specs.declared.replies.Reply.{Reply}
-use Rattle.dg_model.specs.declared.replies.Reply.TheVariants.{Blocks}
+use Rattle.dg_model.specs.declared.replies.Reply.TheVariants.{Blocks, Lost, NotParity, NotSaved, Saved}
 use Rattle.dg_model.specs.declared.shapes.Shape.{Shape}
-use Rattle.dg_run.specs.Steps.{Known, StandsIn, StepsTo, VolumeStepsTo, rack_of, shape_of}
+use Rattle.dg_run.specs.Plain.{IsOfPairs, IsReduced}
+use Rattle.dg_run.specs.Steps.{Known, StandsIn, StepsTo, VolumeStepsTo}
 use Rattle.dg_run.specs.declared.arrays.Array.{Array}
 use Rattle.dg_volume.specs.Copies.{StepsHot}
 use Rattle.dg_volume.specs.Volumes.{any_phase, marks_of}
 use Rattle.dg_volume.specs.Volumes as volumes
 
 module _ {R : Type 0} (rack : Ghosts R) where
-  -- what the rack tells now it told before
-  abbrev pub TellsStill : Array R → Array R → Type 0
-  TellsStill a b = (q : ℕ) → rack.tells (rack_of b) q → rack.tells (rack_of a) q
-
-  -- what is told in the end was told before
-  pub told_before : {P : Type 0} → (a b : Array R) → shape_of b ≡ shape_of a → TellsStill a b → Known P rack b → Known P rack a
-  told_before a b shape tells known = (λ q below. tells q (known.0 q (subst (λ (s : Shape). q / 2 < s.b) (sym shape) below)), known.1)
-
   -- what a step of its volume leads to
   abbrev pub LeadsTo : Type 0 → (List ℕ → List ℕ) → Array R → Event → Reply → Array R → State → Type 0
   LeadsTo P touch a event reply b state = (next : State) × volumes.StandsIn any_phase rack P b.volume next × Step (Known P rack b) state event reply next × (next.recent ≡ touch state.recent)
@@ -74,6 +67,25 @@ module _ {R : Type 0} (rack : Ghosts R) where
   weaker_steps a b event reply steps origin state st =
       let one = steps origin state st in
       (one.0, one.1.volume, one.2)
+
+  -- the array isn't saved while a boundary isn't in use, and nothing is done
+  pub not_saved_steps : (a : Array R) → IsReduced a → StepsTo rack a Save NotSaved a
+  not_saved_steps a less origin state st = (state, st, (subst (λ (s : State). length s.live < s.boundaries) (sym st.volume.is) less, refl))
+
+  -- there is no disk to take out or to mend, and nothing is done
+  pub disk_steps : (a : Array R) (event : Event) → ((s : ℕ) × (j : ℕ) × (event ≡ DropDisk s j)) ⊎ ((s : ℕ) × (j : ℕ) × (event ≡ MendDisk s j)) → StepsTo rack a event NotParity a
+  disk_steps a event (inl drop) = subst (λ (e : Event). StepsTo rack a e NotParity a) (sym drop.2) (λ origin state st. (state, st, refl))
+  disk_steps a event (inr mend) = subst (λ (e : Event). StepsTo rack a e NotParity a) (sym mend.2) (λ origin state st. (state, st, refl))
+
+  pub disk_pairs : (a : Array R) (event : Event) → ((s : ℕ) × (j : ℕ) × (event ≡ DropDisk s j)) ⊎ ((s : ℕ) × (j : ℕ) × (event ≡ MendDisk s j)) → IsOfPairs a event NotParity
+  disk_pairs a event (inl drop) = subst (λ (e : Event). IsOfPairs a e NotParity) (sym drop.2) refl
+  disk_pairs a event (inr mend) = subst (λ (e : Event). IsOfPairs a e NotParity) (sym mend.2) refl
+
+  -- a reply to a save of an array all of whose boundaries are in use
+  pub saved_pairs : (a : Array R) → (IsReduced a → ⊥) → (reply : Reply) → IsOfPairs a Save reply
+  saved_pairs a whole (Saved q) = whole
+  saved_pairs a whole (Lost s) = whole
+  saved_pairs a whole reply = tt
 
   -- the pending blocks are told, and nothing is done
   pub pending_steps : (a : Array R) → StepsTo rack a Pending (Blocks (marked (marks_of any_phase a.volume))) a

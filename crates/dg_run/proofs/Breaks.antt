@@ -7,23 +7,19 @@ use Rattle.std.proofs.lemmas.List.Concat.{flat_map-append}
 use Rattle.std.proofs.lemmas.List.Elements.{All-append}
 use Rattle.dg_io.specs.declared.outside.Rack.{Ghosts}
 use Rattle.dg_io.specs.Told.{AreAny, Told, Took, TookPart}
-use Rattle.dg_model.proofs.KnownLaws.{run_less}
-use Rattle.dg_model.specs.States.{State}
 use Rattle.dg_model.specs.declared.shapes.Shape.{Shape}
 use Rattle.dg_model.specs.declared.events.Event.{Event}
-use Rattle.dg_model.specs.declared.events.Event.TheVariants.{Tree}
-use Rattle.dg_model.specs.declared.replies.Reply.TheVariants.{Nodes}
 use Rattle.dg_run.specs.declared.arrays.Array.{Array}
-use Rattle.dg_run.specs.Steps.{AnsweredBefore, ListedBefore, VolumeStepsTo, WantedFor, shape_of}
+use Rattle.dg_run.specs.Histories.{EventDone, EventListed, EventWanted, TellsLine, boundaries_of}
+use Rattle.dg_regroup.specs.declared.live_racks.LiveRack.{LiveRack}
 use Rattle.dg_text.specs.Lines.{line_of, input_of, IsInPlace}
-use Rattle.dg_text.specs.Replies.{nodes_text, output_of, reply_line}
+use Rattle.dg_text.specs.Replies.{output_of, reply_line}
 use Rattle.dg_text.specs.ToldSteps.{took_both}
 use Rattle.dg_run.specs.Endings.{GaveLines, StartsWith, TookUpTo, LinesBrokeOff, LinesCut, LinesListed, LinesRanOut, LinesWanted, RanOutAt, ServedLinePart, WantedLine}
 use Rattle.dg_run.specs.Events.{Begins}
 use Rattle.dg_run.specs.Lines.{BeginsAll}
 use Rattle.dg_run.proofs.Inputs.{All-one}
-use Rattle.dg_run.proofs.Runs.{SoFar, output_more, volume_runs_more}
-use Rattle.dg_run.proofs.ArraySteps.{TellsStill, told_before}
+use Rattle.dg_run.proofs.Runs.{SoFar, output_more, runs_before, volume_runs_before, volume_runs_more}
 use Rattle.dg_run.proofs.ToldSteps.{Told-then, any_left}
 
 -- the line of an event was taken, and the source has so much left
@@ -46,7 +42,7 @@ starts_more shape es e x y z first second = Told-then (BeginsAll shape es) (Star
     }) x y z first second
 
 module _ {R : Type 0} (rack : Ghosts R) where
-  broke_off : (shape : Shape) (first from passed number : ℕ) (x y z t u : Option (List ℕ)) (a b : Array R) → passed ≤ 2 ^ 40 → SoFar rack shape first from passed number x y t u a b
+  broke_off : (shape : Shape) (first from passed number : ℕ) (x y z t u : Option (List ℕ)) (a b : Array (LiveRack R)) → passed ≤ 2 ^ 40 → SoFar rack shape first from passed number x y t u a b
       → Told (GaveLines []) y z → LinesBrokeOff rack [] shape first x z t u a b
   broke_off shape first from passed number x y z t u a b budget was told = record {
     events = was.events;
@@ -59,15 +55,15 @@ module _ {R : Type 0} (rack : Ghosts R) where
     output = was.served.output;
   }
 
-  pub lines_broke_off : (shape : Shape) (first from passed number : ℕ) (x y z t u v : Option (List ℕ)) (a b c : Array R) → passed ≤ 2 ^ 40 → SoFar rack shape first from passed number x y t u a b
+  pub lines_broke_off : (shape : Shape) (first from passed number : ℕ) (x y z t u v : Option (List ℕ)) (a b c : Array (LiveRack R)) → passed ≤ 2 ^ 40 → SoFar rack shape first from passed number x y t u a b
       → Told (GaveLines []) y z → v ≡ u → c ≡ b → LinesBrokeOff rack [] shape first x z t v a c
   lines_broke_off shape first from passed number x y z t u v a b c budget was told same kept =
       subst (λ (o : Option (List ℕ)). LinesBrokeOff rack [] shape first x z t o a c) (sym same)
-      (subst (λ (s : Array R). LinesBrokeOff rack [] shape first x z t u a s) (sym kept) (broke_off shape first from passed number x y z t u a b budget was told))
+      (subst (λ (s : Array (LiveRack R)). LinesBrokeOff rack [] shape first x z t u a s) (sym kept) (broke_off shape first from passed number x y z t u a b budget was told))
 
-  pub lines_cut : (shape : Shape) (first from passed number : ℕ) (x y z t u v : Option (List ℕ)) (a b c : Array R) → passed ≤ 2 ^ 40 → SoFar rack shape first from passed number x y t u a b
-      → ServedLinePart rack shape (2 ^ 40 - passed) y z u v b c → shape_of c ≡ shape_of b → TellsStill rack b c → LinesCut rack [] shape first x z t v a c
-  lines_cut shape first from passed number x y z t u v a b c budget was line same tells =
+  pub lines_cut : (shape : Shape) (first from passed number : ℕ) (x y z t u v : Option (List ℕ)) (a b c : Array (LiveRack R)) → passed ≤ 2 ^ 40 → SoFar rack shape first from passed number x y t u a b
+      → ServedLinePart rack shape (2 ^ 40 - passed) y z u v b c → (TellsLine rack c → TellsLine rack b) → LinesCut rack [] shape first x z t v a c
+  lines_cut shape first from passed number x y z t u v a b c budget was line told =
       let es = was.events in
       let e = line.event in
       let rs = was.served.replies in
@@ -79,104 +75,87 @@ module _ {R : Type 0} (rack : Ghosts R) where
         last = r;
         in_place = All-append (IsInPlace (Some shape)) es (e ∷ []) was.served.in_place (All-one (IsInPlace (Some shape)) e line.in_place);
         budget = omega (arith, size, length-append (input_of es) (line_of e), was.passed_is, line.within);
-        runs = volume_runs_more rack a b c es rs e r was.served.runs line.answered.steps same tells;
+        runs = volume_runs_more rack a b c es rs e r was.served.runs line.answered.runs told;
         input = starts_more (Some shape) es e x y z was.served.input line.input;
         output = Told-then (Took (output_of rs)) (TookPart (reply_line r)) (TookUpTo (output_of rs) (reply_line r))
             (λ p q o f s. record { n = s.0; is = s.1 ∙ ap (λ (l : List ℕ). l ++ take s.0 (reply_line r)) f ∙ append_assoc p (output_of rs) (take s.0 (reply_line r)) })
             t u v was.served.output line.answered.output;
       }
 
-  pub lines_cut_at : (shape here : Shape) (first from passed number : ℕ) (x y z t u v : Option (List ℕ)) (a b c : Array R) → passed ≤ 2 ^ 40 → SoFar rack shape first from passed number x y t u a b → here ≡ shape
-      → ServedLinePart rack here (2 ^ 40 - passed) y z u v b c → shape_of c ≡ shape_of b → TellsStill rack b c → LinesCut rack [] shape first x z t v a c
-  lines_cut_at shape here first from passed number x y z t u v a b c budget was is line same tells =
-      lines_cut shape first from passed number x y z t u v a b c budget was (subst (λ (s : Shape). ServedLinePart rack s (2 ^ 40 - passed) y z u v b c) is line) same tells
-
-  lines_ran_out : (shape : Shape) (first from passed number : ℕ) (x y z t u v : Option (List ℕ)) (a b c : Array R) → passed ≤ 2 ^ 40 → SoFar rack shape first from passed number x y t u a b
-      → Told AreAny y z → v ≡ u → shape_of c ≡ shape_of b → TellsStill rack b c → LinesWanted rack [] shape first x z t v a c
+  lines_ran_out : (shape : Shape) (first from passed number : ℕ) (x y z t u v : Option (List ℕ)) (a b c : Array (LiveRack R)) → passed ≤ 2 ^ 40 → SoFar rack shape first from passed number x y t u a b
+      → Told AreAny y z → v ≡ u → boundaries_of c ≡ boundaries_of b → (TellsLine rack c → TellsLine rack b) → LinesWanted rack [] shape first x z t v a c
   lines_ran_out shape first from passed number x y z t u v a b c budget was told kept same tells = record {
     events = was.events;
     replies = was.served.replies;
     in_place = was.served.in_place;
     budget = omega (arith, was.passed_is);
-    runs = λ origin state st.
-        let one = was.served.runs origin state st in (
-          one.0,
-          ap (λ (s : State). s.table.shape) one.1.volume.is ∙ sym same,
-          run_less (told_before rack b c same tells) state was.events was.served.replies one.0 one.2,
-        );
+    runs = runs_before rack a b c was.events was.served.replies was.served.runs same tells;
     input = Told-then (BeginsAll (Some shape) was.events) AreAny (StartsWith (input_of was.events)) (λ p q o f s. record { more = q; split = f.lines }) x y z was.served.input told;
     output = subst (λ (o : Option (List ℕ)). Told (Took (output_of was.served.replies)) t o) (sym kept) was.served.output;
   }
 
   -- the reply of the last line was written whole
-  ran_out_behind_reply : (shape : Shape) (first from passed number : ℕ) (x y z t u v : Option (List ℕ)) (a b c : Array R) → passed ≤ 2 ^ 40 → SoFar rack shape first from passed number x y t u a b
-      → (line : WantedLine rack shape (2 ^ 40 - passed) y z u v b c) → AnsweredBefore rack line.event u v b c → shape_of c ≡ shape_of b → TellsStill rack b c
+  ran_out_behind_reply : (shape : Shape) (first from passed number : ℕ) (x y z t u v : Option (List ℕ)) (a b c : Array (LiveRack R)) → passed ≤ 2 ^ 40 → SoFar rack shape first from passed number x y t u a b
+      → (line : WantedLine rack shape (2 ^ 40 - passed) y z u v b c) → EventDone rack line.event u v b c → (TellsLine rack c → TellsLine rack b)
       → LinesWanted rack [] shape first x z t v a c
-  ran_out_behind_reply shape first from passed number x y z t u v a b c budget was line answered same tells =
+  ran_out_behind_reply shape first from passed number x y z t u v a b c budget was line answered told =
       let es = was.events in
       let e = line.event in
       let rs = was.served.replies in
       let r = answered.reply in
-      let runs = volume_runs_more rack a b c es rs e r was.served.runs answered.steps same tells in
       let size = ap length (more_lines es e) in
       record {
         events = es ++ e ∷ [];
         replies = rs ++ r ∷ [];
         in_place = All-append (IsInPlace (Some shape)) es (e ∷ []) was.served.in_place (All-one (IsInPlace (Some shape)) e line.in_place);
         budget = omega (arith, size, length-append (input_of es) (line_of e), was.passed_is, line.within);
-        runs = λ origin state st.
-            let one = runs origin state st in
-            (one.0, ap (λ (s : State). s.table.shape) one.1.is, one.2);
+        runs = volume_runs_before rack a c (es ++ e ∷ []) (rs ++ r ∷ []) (volume_runs_more rack a b c es rs e r was.served.runs answered.runs told);
         input = starts_more (Some shape) es e x y z was.served.input line.input;
         output = output_more rack rs r t u v was.served.output answered.output;
       }
 
-  -- of the listing that the last line asks for the first entries were written
-  ran_out_in_listing : (shape : Shape) (first from passed number : ℕ) (x y z t u v : Option (List ℕ)) (a b c : Array R) → passed ≤ 2 ^ 40 → SoFar rack shape first from passed number x y t u a b
-      → (line : WantedLine rack shape (2 ^ 40 - passed) y z u v b c) → ListedBefore rack line.event u v b c → shape_of c ≡ shape_of b → TellsStill rack b c
+  -- of the listing that the last line asks for the first lines were written
+  ran_out_in_listing : (shape : Shape) (first from passed number : ℕ) (x y z t u v : Option (List ℕ)) (a b c : Array (LiveRack R)) → passed ≤ 2 ^ 40 → SoFar rack shape first from passed number x y t u a b
+      → (line : WantedLine rack shape (2 ^ 40 - passed) y z u v b c) → EventListed rack line.event u v b c → (TellsLine rack c → TellsLine rack b)
       → LinesListed rack [] shape first x z t v a c
-  ran_out_in_listing shape first from passed number x y z t u v a b c budget was line listed same tells =
+  ran_out_in_listing shape first from passed number x y z t u v a b c budget was line listed told =
       let es = was.events in
+      let e = line.event in
       let rs = was.served.replies in
-      let r = Nodes (listed.entries ++ listed.others) in
-      let steps = subst (λ (e : Event). VolumeStepsTo rack b e r c) listed.is listed.steps in
-      let within = subst (λ (e : Event). length (line_of e) ≤ 2 ^ 40 - passed) listed.is line.within in
-      let input = subst (λ (e : Event). Told (StartsWith (line_of e)) y z) listed.is line.input in
-      let runs = volume_runs_more rack a b c es rs Tree r was.served.runs steps same tells in
-      let size = ap length (more_lines es Tree) in
+      let r = listed.reply in
+      let size = ap length (more_lines es e) in
       record {
         events = es;
         replies = rs;
-        entries = listed.entries;
-        others = listed.others;
-        in_place = All-append (IsInPlace (Some shape)) es (Tree ∷ []) was.served.in_place (All-one (IsInPlace (Some shape)) Tree tt);
-        budget = omega (arith, size, length-append (input_of es) (line_of Tree), was.passed_is, within);
-        runs = λ origin state st.
-            let one = runs origin state st in
-            (one.0, ap (λ (s : State). s.table.shape) one.1.is, one.2);
-        input = starts_more (Some shape) es Tree x y z was.served.input input;
-        output = took_both (output_of rs) (nodes_text listed.entries) t u v was.served.output listed.output;
+        last = e;
+        reply = r;
+        text = listed.text;
+        lines = listed.lines;
+        in_place = All-append (IsInPlace (Some shape)) es (e ∷ []) was.served.in_place (All-one (IsInPlace (Some shape)) e line.in_place);
+        budget = omega (arith, size, length-append (input_of es) (line_of e), was.passed_is, line.within);
+        runs = volume_runs_before rack a c (es ++ e ∷ []) (rs ++ r ∷ []) (volume_runs_more rack a b c es rs e r was.served.runs listed.runs told);
+        input = starts_more (Some shape) es e x y z was.served.input line.input;
+        output = took_both (output_of rs) listed.text t u v was.served.output listed.output;
       }
 
-  ran_out_by : (shape : Shape) (first from passed number : ℕ) (x y z t u v : Option (List ℕ)) (a b c : Array R) → passed ≤ 2 ^ 40 → SoFar rack shape first from passed number x y t u a b
-      → (line : WantedLine rack shape (2 ^ 40 - passed) y z u v b c) → AnsweredBefore rack line.event u v b c ⊎ ListedBefore rack line.event u v b c
-      → shape_of c ≡ shape_of b → TellsStill rack b c → LinesRanOut rack [] shape first x z t v a c
-  ran_out_by shape first from passed number x y z t u v a b c budget was line (inl answered) same tells =
-      inl (ran_out_behind_reply shape first from passed number x y z t u v a b c budget was line answered same tells)
-  ran_out_by shape first from passed number x y z t u v a b c budget was line (inr listed) same tells =
-      inr (ran_out_in_listing shape first from passed number x y z t u v a b c budget was line listed same tells)
+  ran_out_by : (shape : Shape) (first from passed number : ℕ) (x y z t u v : Option (List ℕ)) (a b c : Array (LiveRack R)) → passed ≤ 2 ^ 40 → SoFar rack shape first from passed number x y t u a b
+      → (line : WantedLine rack shape (2 ^ 40 - passed) y z u v b c) → EventDone rack line.event u v b c ⊎ EventListed rack line.event u v b c
+      → (TellsLine rack c → TellsLine rack b) → LinesRanOut rack [] shape first x z t v a c
+  ran_out_by shape first from passed number x y z t u v a b c budget was line (inl answered) told =
+      inl (ran_out_behind_reply shape first from passed number x y z t u v a b c budget was line answered told)
+  ran_out_by shape first from passed number x y z t u v a b c budget was line (inr listed) told =
+      inr (ran_out_in_listing shape first from passed number x y z t u v a b c budget was line listed told)
 
-  pub lines_ran_out_at : (shape here : Shape) (first from passed number : ℕ) (x y z t u v : Option (List ℕ)) (a b c : Array R) → passed ≤ 2 ^ 40 → SoFar rack shape first from passed number x y t u a b → here ≡ shape
-      → RanOutAt rack here (2 ^ 40 - passed) y z u v b c → shape_of c ≡ shape_of b → TellsStill rack b c → LinesRanOut rack [] shape first x z t v a c
-  lines_ran_out_at shape here first from passed number x y z t u v a b c budget was is (inl none) same tells =
-      inl (lines_ran_out shape first from passed number x y z t u v a b c budget was none.0 none.1 same tells)
-  lines_ran_out_at shape here first from passed number x y z t u v a b c budget was is (inr line) same tells =
-      let wanted = subst (λ (s : Shape). WantedLine rack s (2 ^ 40 - passed) y z u v b c) is line in
-      ran_out_by shape first from passed number x y z t u v a b c budget was wanted wanted.answered same tells
+  pub lines_ran_out_at : (shape : Shape) (first from passed number : ℕ) (x y z t u v : Option (List ℕ)) (a b c : Array (LiveRack R)) → passed ≤ 2 ^ 40 → SoFar rack shape first from passed number x y t u a b
+      → RanOutAt rack shape (2 ^ 40 - passed) y z u v b c → boundaries_of c ≡ boundaries_of b → (TellsLine rack c → TellsLine rack b) → LinesRanOut rack [] shape first x z t v a c
+  lines_ran_out_at shape first from passed number x y z t u v a b c budget was (inl none) same told =
+      inl (lines_ran_out shape first from passed number x y z t u v a b c budget was none.0 none.1 same told)
+  lines_ran_out_at shape first from passed number x y z t u v a b c budget was (inr line) same told =
+      ran_out_by shape first from passed number x y z t u v a b c budget was line line.answered told
 
   -- memory was wanting for the event of a line that was taken
-  pub ran_out_of : (shape : Shape) (room : ℕ) (event : Event) (unread : List ℕ) (left rest taken given : Option (List ℕ)) (old now : Array R) → IsInPlace (Some shape) event
-      → length (line_of event) ≤ room → Told (Begins (Some shape) event) left (option_map (λ more. unread ++ more) rest) → WantedFor rack event taken given old now
+  pub ran_out_of : (shape : Shape) (room : ℕ) (event : Event) (unread : List ℕ) (left rest taken given : Option (List ℕ)) (old now : Array (LiveRack R)) → IsInPlace (Some shape) event
+      → length (line_of event) ≤ room → Told (Begins (Some shape) event) left (option_map (λ more. unread ++ more) rest) → EventWanted rack event taken given old now
       → RanOutAt rack shape room left rest taken given old now
   ran_out_of shape room event unread left rest taken given old now place within told (inl same) = inl (any_left (Begins (Some shape) event) unread left rest told, same)
   ran_out_of shape room event unread left rest taken given old now place within told (inr answered) = inr (record {
@@ -189,7 +168,7 @@ module _ {R : Type 0} (rack : Ghosts R) where
 
   -- ---- behind what was written before
 
-  pub broke_off_behind : (front : List ℕ) (shape : Shape) (first : ℕ) (x z t m v : Option (List ℕ)) (a b : Array R) → Told (Took front) t m → LinesBrokeOff rack [] shape first x z m v a b → LinesBrokeOff rack front shape first x z t v a b
+  pub broke_off_behind : (front : List ℕ) (shape : Shape) (first : ℕ) (x z t m v : Option (List ℕ)) (a b : Array (LiveRack R)) → Told (Took front) t m → LinesBrokeOff rack [] shape first x z m v a b → LinesBrokeOff rack front shape first x z t v a b
   broke_off_behind front shape first x z t m v a b wrote lines = record {
     events = lines.events;
     replies = lines.replies;
@@ -201,7 +180,7 @@ module _ {R : Type 0} (rack : Ghosts R) where
         (λ p q o f s. s ∙ ap (λ (l : List ℕ). l ++ output_of lines.replies) f ∙ append_assoc p front (output_of lines.replies)) t m v wrote lines.output;
   }
 
-  pub cut_behind : (front : List ℕ) (shape : Shape) (first : ℕ) (x z t m v : Option (List ℕ)) (a b : Array R) → Told (Took front) t m → LinesCut rack [] shape first x z m v a b → LinesCut rack front shape first x z t v a b
+  pub cut_behind : (front : List ℕ) (shape : Shape) (first : ℕ) (x z t m v : Option (List ℕ)) (a b : Array (LiveRack R)) → Told (Took front) t m → LinesCut rack [] shape first x z m v a b → LinesCut rack front shape first x z t v a b
   cut_behind front shape first x z t m v a b wrote lines =
       let out = output_of lines.replies in
       record {
@@ -220,7 +199,7 @@ module _ {R : Type 0} (rack : Ghosts R) where
             }) t m v wrote lines.output;
       }
 
-  wanted_behind : (front : List ℕ) (shape : Shape) (first : ℕ) (x z t m v : Option (List ℕ)) (a b : Array R) → Told (Took front) t m → LinesWanted rack [] shape first x z m v a b → LinesWanted rack front shape first x z t v a b
+  wanted_behind : (front : List ℕ) (shape : Shape) (first : ℕ) (x z t m v : Option (List ℕ)) (a b : Array (LiveRack R)) → Told (Took front) t m → LinesWanted rack [] shape first x z m v a b → LinesWanted rack front shape first x z t v a b
   wanted_behind front shape first x z t m v a b wrote lines = record {
     events = lines.events;
     replies = lines.replies;
@@ -231,19 +210,21 @@ module _ {R : Type 0} (rack : Ghosts R) where
     output = took_both front (output_of lines.replies) t m v wrote lines.output;
   }
 
-  listed_behind : (front : List ℕ) (shape : Shape) (first : ℕ) (x z t m v : Option (List ℕ)) (a b : Array R) → Told (Took front) t m → LinesListed rack [] shape first x z m v a b → LinesListed rack front shape first x z t v a b
+  listed_behind : (front : List ℕ) (shape : Shape) (first : ℕ) (x z t m v : Option (List ℕ)) (a b : Array (LiveRack R)) → Told (Took front) t m → LinesListed rack [] shape first x z m v a b → LinesListed rack front shape first x z t v a b
   listed_behind front shape first x z t m v a b wrote lines = record {
     events = lines.events;
     replies = lines.replies;
-    entries = lines.entries;
-    others = lines.others;
+    last = lines.last;
+    reply = lines.reply;
+    text = lines.text;
+    lines = lines.lines;
     in_place = lines.in_place;
     budget = lines.budget;
     runs = lines.runs;
     input = lines.input;
-    output = took_both front (output_of lines.replies ++ nodes_text lines.entries) t m v wrote lines.output;
+    output = took_both front (output_of lines.replies ++ lines.text) t m v wrote lines.output;
   }
 
-  pub ran_out_behind : (front : List ℕ) (shape : Shape) (first : ℕ) (x z t m v : Option (List ℕ)) (a b : Array R) → Told (Took front) t m → LinesRanOut rack [] shape first x z m v a b → LinesRanOut rack front shape first x z t v a b
+  pub ran_out_behind : (front : List ℕ) (shape : Shape) (first : ℕ) (x z t m v : Option (List ℕ)) (a b : Array (LiveRack R)) → Told (Took front) t m → LinesRanOut rack [] shape first x z m v a b → LinesRanOut rack front shape first x z t v a b
   ran_out_behind front shape first x z t m v a b wrote (inl lines) = inl (wanted_behind front shape first x z t m v a b wrote lines)
   ran_out_behind front shape first x z t m v a b wrote (inr lines) = inr (listed_behind front shape first x z t m v a b wrote lines)

@@ -5,22 +5,27 @@ use Rattle.std.specs.Option.{option_map}
 use Rattle.std.proofs.lemmas.List.{append-nil}
 use Rattle.dg_io.specs.Told.{AreAny, Told, Took, TookPart}
 use Rattle.dg_io.specs.declared.outside.Rack.{Ghosts}
-use Rattle.dg_model.proofs.KnownLaws.{run_less}
+use Rattle.dg_io.specs.RackCalls.{RackCall}
+use Rattle.dg_io.specs.RackWords.{After}
+use Rattle.dg_model.specs.Moments.Kind.{plain}
+use Rattle.dg_regroup.specs.declared.live_racks.LiveRack.{LiveRack}
 use Rattle.dg_model.specs.Shapes.{IsShape}
 use Rattle.dg_model.specs.States.{Counts, State}
 use Rattle.dg_model.specs.declared.shapes.Shape.{Shape}
 use Rattle.dg_model.specs.declared.events.Event.{Event}
-use Rattle.dg_model.specs.declared.events.Event.TheVariants.{Array as MakeArray, Tree}
-use Rattle.dg_model.specs.declared.replies.Reply.TheVariants.{Done, Nodes}
+use Rattle.dg_model.specs.declared.events.Event.TheVariants.{Array as MakeArray}
+use Rattle.dg_model.specs.declared.replies.Reply.TheVariants.{Done}
 use Rattle.dg_run.specs.declared.arrays.Array.{Array}
 use Rattle.dg_text.specs.Lines.{line_of, input_of, IsInPlace}
-use Rattle.dg_text.specs.Replies.{nodes_text, output_of, refusal, reply_line}
+use Rattle.dg_text.specs.Replies.{output_of, refusal, reply_line}
 use Rattle.dg_run.specs.Arrays.{AnsweredToPart, ArrayCut, ArrayRanOut}
 use Rattle.dg_run.specs.Endings.{GaveLines, LinesBrokeOff, LinesCut, LinesListed, LinesWanted, StartsWith, TookUpTo}
 use Rattle.dg_run.specs.Events.{Begins}
 use Rattle.dg_run.specs.Replays.{BrokeOff, CutRefusal, CutReply, IsCut, RanOut, RanOutBetween, RanOutWithin, StopsAt, TellsBoundaries}
-use Rattle.dg_run.specs.Steps.{GoesOn, IsBlankArray, Known, VolumeRunsTo, rack_of, shape_of}
-use Rattle.dg_run.proofs.Runs.{volume_runs}
+use Rattle.dg_run.specs.Histories.{Continues, IsBlankReady, KnownBy, VolumeRunsTo, below_of, boundaries_of, moment_of}
+use Rattle.dg_run.specs.Steps.{shape_of}
+use Rattle.dg_run.proofs.Happening.{history_less, weaker_runs}
+use Rattle.dg_run.proofs.Runs.{no_runs}
 use Rattle.dg_volume.specs.Origins.{Always}
 use Rattle.dg_volume.specs.Origins.Origin.{nothing}
 use Rattle.dg_run.proofs.ToldSteps.{Told-each, Told-refl, Told-then}
@@ -58,7 +63,7 @@ ran_out_first before tells x z t v told same =
       in_place = none.in_place;
       budget = none.budget;
       final = none.final;
-      trace = none.trace;
+      history = none.history;
       input = any_starts x z told;
       output = subst (λ (o : Option (List ℕ)). Told (Took []) t o) (sym same) (Told-refl (Took []) (λ b. sym (append-nil b)) t);
     })
@@ -74,14 +79,16 @@ broke_off_first now bytes tells x z t v told same = record {
 
 -- ---- behind a first line that made the array
 
-module _ {R : Type 0} (ghosts : Ghosts R) (shape : Shape) (first : ℕ) (rack : R) (a b : Array R) (is : first ≡ length (line_of (MakeArray shape))) (well : IsShape shape)
-    (blank : IsBlankArray ghosts shape rack a) (goes : GoesOn ghosts a b) where
+module _ {R : Type 0} (ghosts : Ghosts R) (none : (s : R) → ghosts.made s [] s)
+    (both : (a b c : R) (x y : List RackCall) → ghosts.made a x b → ghosts.made b y c → ghosts.made a (x ++ y) c) (law : (a b : R) (made : List RackCall) → ghosts.made a made b → After ghosts made a b)
+    (shape : Shape) (first : ℕ) (rack : R) (a b : Array (LiveRack R)) (is : first ≡ length (line_of (MakeArray shape))) (well : IsShape shape)
+    (blank : IsBlankReady ghosts shape rack a) (goes : Continues ghosts a b) where
   pub array_broke_off : (text left rest taken given : Option (List ℕ)) → Told (Begins None (MakeArray shape)) text left → LinesBrokeOff ghosts (reply_line Done) (shape_of a) first left rest taken given a b
-      → BrokeOff (ghosts.counts rack) (ghosts.counts (rack_of b)) (ghosts.bytes rack) (ghosts.bytes (rack_of b)) (ghosts.tells (rack_of b)) text rest taken given
+      → BrokeOff (ghosts.counts rack) (ghosts.counts (below_of b)) (ghosts.bytes rack) (ghosts.bytes (below_of b)) (ghosts.tells (below_of b)) text rest taken given
   array_broke_off text left rest taken given line lines = record {
     events = MakeArray shape ∷ lines.events;
     replies = Done ∷ lines.replies;
-    ran = ran_of ghosts shape first rack a b is well blank goes lines.events lines.replies (volume_runs ghosts a b lines.events lines.replies lines.runs) lines.in_place lines.budget;
+    ran = ran_of ghosts none both law shape first rack a b is well blank goes lines.events lines.replies (weaker_runs ghosts none both law a b lines.events lines.replies lines.runs) lines.in_place lines.budget;
     input = Told-then (Begins None (MakeArray shape)) (GaveLines (input_of lines.events)) (GaveLines (input_of (MakeArray shape ∷ lines.events))) (λ p q r f s. record {
       part = s.part;
       split = f.line ∙ ap (λ (l : List ℕ). line_of (MakeArray shape) ++ l) s.split ∙ sym (append_assoc (line_of (MakeArray shape)) (input_of lines.events) (s.part ++ r));
@@ -90,40 +97,40 @@ module _ {R : Type 0} (ghosts : Ghosts R) (shape : Shape) (first : ℕ) (rack : 
     output = lines.output;
   }
 
-  no_runs : b ≡ a → VolumeRunsTo ghosts a [] [] b
-  no_runs same = subst (λ (s : Array R). VolumeRunsTo ghosts a [] [] s) (sym same) (λ origin state st. (state, st.volume, refl))
+  still_runs : b ≡ a → VolumeRunsTo ghosts a [] [] b
+  still_runs same = subst (λ (s : Array (LiveRack R)). VolumeRunsTo ghosts a [] [] s) (sym same) (weaker_runs ghosts none both law a a [] [] (no_runs ghosts a))
 
   first_cut : (text left rest taken given : Option (List ℕ)) → first ≤ 2 ^ 40 → Told (Begins None (MakeArray shape)) text left → Told (TookPart (reply_line Done)) taken given → b ≡ a → Told AreAny left rest
-      → CutReply (ghosts.counts rack) (ghosts.counts (rack_of b)) (ghosts.bytes rack) (ghosts.bytes (rack_of b)) (ghosts.tells (rack_of b)) text rest taken given
+      → CutReply (ghosts.counts rack) (ghosts.counts (below_of b)) (ghosts.bytes rack) (ghosts.bytes (below_of b)) (ghosts.tells (below_of b)) text rest taken given
   first_cut text left rest taken given small line part same any = record {
     events = MakeArray shape ∷ [];
     replies = [];
     last = Done;
-    ran = ran_of ghosts shape first rack a b is well blank goes [] [] (no_runs same) (λ k d h. absurd (omega arith)) (omega arith);
+    ran = ran_of ghosts none both law shape first rack a b is well blank goes [] [] (still_runs same) (λ k d h. absurd (omega arith)) (omega arith);
     input = starts_more shape [] text left rest line (any_starts left rest any);
     output = Told-each (TookPart (reply_line Done)) (TookUpTo [] (reply_line Done)) (λ p q s. record { n = s.0; is = s.1 }) taken given part;
   }
 
   last_cut : (text left rest taken given : Option (List ℕ)) → Told (Begins None (MakeArray shape)) text left → LinesCut ghosts (reply_line Done) (shape_of a) first left rest taken given a b
-      → CutReply (ghosts.counts rack) (ghosts.counts (rack_of b)) (ghosts.bytes rack) (ghosts.bytes (rack_of b)) (ghosts.tells (rack_of b)) text rest taken given
+      → CutReply (ghosts.counts rack) (ghosts.counts (below_of b)) (ghosts.bytes rack) (ghosts.bytes (below_of b)) (ghosts.tells (below_of b)) text rest taken given
   last_cut text left rest taken given line lines = record {
     events = MakeArray shape ∷ lines.events;
     replies = Done ∷ lines.replies;
     last = lines.last;
-    ran = ran_of ghosts shape first rack a b is well blank goes lines.events (lines.replies ++ lines.last ∷ []) lines.runs lines.in_place lines.budget;
+    ran = ran_of ghosts none both law shape first rack a b is well blank goes lines.events (lines.replies ++ lines.last ∷ []) lines.runs lines.in_place lines.budget;
     input = starts_more shape lines.events text left rest line lines.input;
     output = lines.output;
   }
 
-  refusal_cut : (unread : List ℕ) (text left rest taken given : Option (List ℕ)) → Told (Begins None (MakeArray shape)) text left → AnsweredToPart ghosts first left (option_map (λ more. unread ++ more) rest) taken given a b
-      → CutRefusal (ghosts.counts rack) (ghosts.counts (rack_of b)) (ghosts.bytes rack) (ghosts.bytes (rack_of b)) (ghosts.tells (rack_of b)) text rest taken given
+  refusal_cut : (unread : List ℕ) (text left rest taken given : Option (List ℕ)) → Told (Begins None (MakeArray shape)) text left → AnsweredToPart ghosts (shape_of a) first left (option_map (λ more. unread ++ more) rest) taken given a b
+      → CutRefusal (ghosts.counts rack) (ghosts.counts (below_of b)) (ghosts.bytes rack) (ghosts.bytes (below_of b)) (ghosts.tells (below_of b)) text rest taken given
   refusal_cut unread text left rest taken given line to =
       let s = to.served in
       let events = MakeArray shape ∷ s.events in
       let ahead = option_map (λ more. unread ++ more) rest in
       let number : to.number ≡ length (MakeArray shape ∷ s.events) + 1 = omega (arith, s.count) in
-      let cut = cut_input ghosts shape first rack a b is well blank goes to.number to.kind left ahead to.middle to.before s in
-      let stops = stops_text (ghosts.counts rack) (ghosts.counts (rack_of b)) (ghosts.bytes rack) (ghosts.bytes (rack_of b)) (ghosts.tells (rack_of b)) shape well s.events to.kind text left ahead line cut in
+      let cut = cut_input ghosts none both law shape first rack a b is well blank goes to.number to.kind left ahead to.middle to.before s in
+      let stops = stops_text (ghosts.counts rack) (ghosts.counts (below_of b)) (ghosts.bytes rack) (ghosts.bytes (below_of b)) (ghosts.tells (below_of b)) shape well s.events to.kind text left ahead line cut in
       let input = Told-each _ (λ p q. (more : List ℕ) × (p ≡ input_of events ++ more) × StopsAt events to.kind more) (λ p q h. (h.0, h.1, h.2)) text ahead stops in
       let wrote = took_first s.served.replies taken to.middle to.before to.ok s.served.output in
       let part = subst (λ (n : ℕ). Told (TookPart (refusal n to.kind)) to.before given) number to.refused in
@@ -131,61 +138,63 @@ module _ {R : Type 0} (ghosts : Ghosts R) (shape : Shape) (first : ℕ) (rack : 
         events = events;
         replies = Done ∷ s.served.replies;
         kind = to.kind;
-        ran = ran_of ghosts shape first rack a b is well blank goes s.events s.served.replies (volume_runs ghosts a b s.events s.served.replies s.served.runs) s.served.in_place s.budget;
+        ran = ran_of ghosts none both law shape first rack a b is well blank goes s.events s.served.replies (weaker_runs ghosts none both law a b s.events s.served.replies s.served.runs) s.served.in_place s.budget;
         input = rest_told (λ p. (more : List ℕ) × (p ≡ input_of events ++ more) × StopsAt events to.kind more) unread text rest input;
         output = up_to (output_of (Done ∷ s.served.replies)) (refusal (length events + 1) to.kind) taken to.before given wrote part;
       }
 
   pub array_cut : (unread : List ℕ) (text left rest taken given : Option (List ℕ)) → first ≤ 2 ^ 40 → Told (Begins None (MakeArray shape)) text left
-      → ArrayCut ghosts first left (option_map (λ more. unread ++ more) rest) rest taken given a b → IsCut (ghosts.counts rack) (ghosts.counts (rack_of b)) (ghosts.bytes rack) (ghosts.bytes (rack_of b)) (ghosts.tells (rack_of b)) text rest taken given
+      → ArrayCut ghosts (shape_of a) first left (option_map (λ more. unread ++ more) rest) rest taken given a b → IsCut (ghosts.counts rack) (ghosts.counts (below_of b)) (ghosts.bytes rack) (ghosts.bytes (below_of b)) (ghosts.tells (below_of b)) text rest taken given
   array_cut unread text left rest taken given small line (inl at_first) = inl (first_cut text left rest taken given small line at_first.0 at_first.1 at_first.2)
   array_cut unread text left rest taken given small line (inr (inl lines)) = inl (last_cut text left rest taken given line lines)
   array_cut unread text left rest taken given small line (inr (inr to)) = inr (refusal_cut unread text left rest taken given line to)
 
   -- what is known of the final state
-  told_in : (final : State) → final.table.shape ≡ shape_of b → TellsBoundaries (ghosts.tells (rack_of b)) final → Known Always ghosts b
-  told_in final is told = ((λ q below. told q (subst (λ (n : ℕ). q / 2 < n) (sym (ap (λ (s : Shape). s.b) is)) below)), tt)
+  told_in : (final : State) → final.boundaries ≡ boundaries_of b → TellsBoundaries (ghosts.tells (below_of b)) final → KnownBy Always ghosts b
+  told_in final is told = ((λ q below. told q (subst (λ (n : ℕ). q / 2 < n) (sym is) below)), tt)
 
   lines_wanted : (text left rest taken given : Option (List ℕ)) → Told (Begins None (MakeArray shape)) text left → LinesWanted ghosts (reply_line Done) (shape_of a) first left rest taken given a b
-      → RanOutBetween (ghosts.counts rack) (ghosts.tells (rack_of b)) text rest taken given
+      → RanOutBetween (ghosts.counts rack) (ghosts.tells (below_of b)) text rest taken given
   lines_wanted text left rest taken given line lines =
       let W = lines.runs nothing blank.state blank.stands in
-      let final = W.0 in
+      let start = moment_of ghosts a blank.state in
       record {
         events = MakeArray shape ∷ lines.events;
         replies = Done ∷ lines.replies;
-        in_place = (well, subst (λ (s : Shape). All (IsInPlace (Some s)) lines.events) (same_shape ghosts shape first rack a b is well blank goes) lines.in_place);
+        in_place = (well, subst (λ (s : Shape). All (IsInPlace (Some s)) lines.events) (same_shape ghosts none both law shape first rack a b is well blank goes) lines.in_place);
         budget = omega (arith, length-append (line_of (MakeArray shape)) (input_of lines.events), lines.budget, is);
-        final = final;
-        trace = (blank.state, blank.blank, run_less (told_in final W.1) blank.state lines.events lines.replies final W.2);
+        final = W.0;
+        history = (start, blank.makes, history_less (told_in W.0.state W.1) plain start lines.events lines.replies W.0 W.2);
         input = starts_more shape lines.events text left rest line lines.input;
         output = lines.output;
       }
 
   lines_listed : (text left rest taken given : Option (List ℕ)) → Told (Begins None (MakeArray shape)) text left → LinesListed ghosts (reply_line Done) (shape_of a) first left rest taken given a b
-      → RanOutWithin (ghosts.counts rack) (ghosts.tells (rack_of b)) text rest taken given
+      → RanOutWithin (ghosts.counts rack) (ghosts.tells (below_of b)) text rest taken given
   lines_listed text left rest taken given line lines =
-      let events = lines.events ++ Tree ∷ [] in
-      let replies = lines.replies ++ Nodes (lines.entries ++ lines.others) ∷ [] in
+      let events = lines.events ++ lines.last ∷ [] in
+      let replies = lines.replies ++ lines.reply ∷ [] in
       let W = lines.runs nothing blank.state blank.stands in
-      let final = W.0 in
+      let start = moment_of ghosts a blank.state in
       record {
         events = MakeArray shape ∷ lines.events;
         replies = Done ∷ lines.replies;
-        entries = lines.entries;
-        others = lines.others;
-        in_place = (well, subst (λ (s : Shape). All (IsInPlace (Some s)) events) (same_shape ghosts shape first rack a b is well blank goes) lines.in_place);
+        last = lines.last;
+        reply = lines.reply;
+        text = lines.text;
+        lines = lines.lines;
+        in_place = (well, subst (λ (s : Shape). All (IsInPlace (Some s)) events) (same_shape ghosts none both law shape first rack a b is well blank goes) lines.in_place);
         budget = omega (arith, length-append (line_of (MakeArray shape)) (input_of events), lines.budget, is);
-        final = final;
-        trace = (blank.state, blank.blank, run_less (told_in final W.1) blank.state events replies final W.2);
+        final = W.0;
+        history = (start, blank.makes, history_less (told_in W.0.state W.1) plain start events replies W.0 W.2);
         input = starts_more shape events text left rest line lines.input;
-        output = took_again (output_of lines.replies) (nodes_text lines.entries) taken given lines.output;
+        output = took_again (output_of lines.replies) lines.text taken given lines.output;
       }
 
-  pub array_ran_out : (text left rest taken given : Option (List ℕ)) → Told (Begins None (MakeArray shape)) text left → ArrayRanOut ghosts first left rest taken given a b
-      → RanOut (ghosts.counts rack) (ghosts.tells (rack_of b)) text rest taken given
+  pub array_ran_out : (text left rest taken given : Option (List ℕ)) → Told (Begins None (MakeArray shape)) text left → ArrayRanOut ghosts (shape_of a) first left rest taken given a b
+      → RanOut (ghosts.counts rack) (ghosts.tells (below_of b)) text rest taken given
   array_ran_out text left rest taken given line (inl none) =
-      ran_out_first (ghosts.counts rack) (ghosts.tells (rack_of b)) text rest taken given (Told-then (Begins None (MakeArray shape)) AreAny AreAny (λ p q r f s. tt) text left rest line none.1) none.0
+      ran_out_first (ghosts.counts rack) (ghosts.tells (below_of b)) text rest taken given (Told-then (Begins None (MakeArray shape)) AreAny AreAny (λ p q r f s. tt) text left rest line none.1) none.0
   array_ran_out text left rest taken given line (inr (inl lines)) = inl (lines_wanted text left rest taken given line lines)
   array_ran_out text left rest taken given line (inr (inr lines)) = inr (lines_listed text left rest taken given line lines)
 

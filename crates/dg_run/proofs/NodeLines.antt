@@ -1,5 +1,5 @@
 -- What was written of a listing of all directories.
-use Rattle.std.proofs.Common.{◌≡◌, ◌∙◌, ◌++◌, ℕ, List, ap, inl, inr, refl, subst}
+use Rattle.std.proofs.Common.{◌≡◌, ◌∙◌, ◌++◌, List, ap, inl, inr, refl, subst}
 use Rattle.dg_io.specs.Told.{Told, Took, TookPart}
 use Rattle.dg_io.specs.declared.outside.Rack.{Ghosts}
 use Rattle.dg_io.specs.declared.outside.Sink as sinks
@@ -39,9 +39,9 @@ module _ {K : Type 0} (ghosts : sinks.Ghosts K) (sink : K) (lent : Lines K) (for
   tree_wanted rack a b out hot (inr some) =
       let reply = Nodes (some.0 ++ some.1) in
       inr (inr (record {
-        is = refl;
-        entries = some.0;
-        others = some.1;
+        reply = reply;
+        text = nodes_text some.0;
+        lines = (some.0, some.1, refl, refl);
         steps = weaker_steps rack a b Tree reply (steps_of rack a b Tree reply tt hot some.3);
         output = nodes_told some.0 out some.2;
       }))

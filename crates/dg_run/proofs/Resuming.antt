@@ -3,33 +3,39 @@ use Rattle.std.proofs.Common.{◌≡◌, ◌≤◌, ◌+◌, ◌-◌, ◌^◌, �
 use Rattle.std.specs.Prelude.{◌⊎◌, All, Option, Some}
 use Rattle.std.specs.Option.{option_map}
 use Rattle.std.proofs.lemmas.List.Concat.{flat_map-append}
+use Rattle.dg_io.specs.RackCalls.{RackCall}
+use Rattle.dg_io.specs.RackWords.{After}
 use Rattle.dg_io.specs.Told.{AreAny, Told, Took, TookPart}
 use Rattle.dg_io.specs.declared.outside.Rack.{Ghosts}
+use Rattle.dg_model.specs.Lives.{all_live}
 use Rattle.dg_model.specs.Tables.{Table}
 use Rattle.dg_model.specs.declared.events.Event.{Event}
-use Rattle.dg_model.specs.declared.events.Event.TheVariants.{Tree}
 use Rattle.dg_model.specs.declared.replies.Reply.{Reply}
-use Rattle.dg_model.specs.declared.replies.Reply.TheVariants.{Nodes}
 use Rattle.dg_model.specs.declared.shapes.Shape.{Shape}
+use Rattle.dg_regroup.specs.LiveGhosts.{live}
+use Rattle.dg_regroup.specs.LiveRacks.{HasNoneAbsent, live_in}
+use Rattle.dg_regroup.specs.declared.live_racks.LiveRack.{LiveRack}
 use Rattle.dg_run.proofs.Broken.{up_to}
 use Rattle.dg_run.proofs.Inputs.{All-head, All-right}
-use Rattle.dg_run.proofs.Opening.{from, met, reached, resumed}
-use Rattle.dg_run.proofs.Runs.{volume_runs}
+use Rattle.dg_run.proofs.Happening.{weaker_runs}
+use Rattle.dg_run.proofs.Opening.{from, met, others, reached, resumed, rise}
 use Rattle.dg_run.proofs.ToldSteps.{Told-then}
 use Rattle.dg_run.proofs.Whole.{fresh_told, rest_ended, rest_told, took_last}
 use Rattle.dg_run.specs.Arrays.{IsOfReplay}
+use Rattle.dg_run.specs.Calls.{Facts, met_by}
 use Rattle.dg_run.specs.Endings.{GaveLines, LinesBrokeOff, LinesCut, LinesRanOut, StartsWith}
 use Rattle.dg_run.specs.Events.{IsRefused}
+use Rattle.dg_run.specs.Histories.{Continues, RunsBefore, VolumeRunsTo, below_of}
 use Rattle.dg_run.specs.Lines.{AllServed, BeginsAll, RefusedBehind, RefusedInPart, ServedTo}
 use Rattle.dg_run.specs.Resumes.{AreLines, EndsResume, RanOn, ResumeCut, ResumeCutRefusal, ResumeListed, ResumeWanted, StopsOn, WantedOn}
-use Rattle.dg_run.specs.Steps.{GoesOn, RunsBefore, VolumeRunsTo, rack_of, shape_of}
+use Rattle.dg_run.specs.Steps.{shape_of}
 use Rattle.dg_run.specs.declared.arrays.Array.{Array}
 use Rattle.dg_run.specs.declared.top.Status.{Status}
 use Rattle.dg_run.specs.declared.top.Status.TheVariants.{Done, Usage, BadLine, ReadFault, WriteFault, NoMemory, NoState, Unclean, Refused}
 use Rattle.dg_text.specs.Lines.{IsInPlace, input_of, line_of}
 use Rattle.dg_text.specs.Replies.{output_of, refusal}
 use Rattle.dg_text.specs.declared.lines.BadLine.{BadLine as Kind}
-use Rattle.dg_saved.specs.OpeningLaws.{others}
+use Rattle.dg_saved.specs.Saved.{HasSource}
 use Rattle.dg_volume.specs.Opens.{HasOpened}
 
 module _ (shape : Shape) where
@@ -52,8 +58,19 @@ module _ (shape : Shape) where
     none = λ others lines made. let had = begins.only others lines.in_place made in past events kind text refused others had.0 lines had.1 had.2;
   }
 
-module _ {R : Type 0} (rack : Ghosts R) (before : R) (a b : Array R) (opened : HasOpened rack before a.volume a.hot) (goes : GoesOn rack a b) (unread kept : List ℕ) (fresh : unread ≡ [])
-    (left rest taken given : Option (List ℕ)) where
+module _ {R : Type 0} (rack : Ghosts R) (none : (s : R) → rack.made s [] s) (both : (a b c : R) (x y : List RackCall) → rack.made a x b → rack.made b y c → rack.made a (x ++ y) c)
+    (law : (a b : R) (made : List RackCall) → rack.made a made b → After rack made a b) (start : LiveRack R) (all_in : live_in start ≡ all_live 16) (none_absent : HasNoneAbsent start)
+    (a b : Array (LiveRack R)) (opened : HasOpened (live rack) start a.volume a.hot) (goes : Continues rack a b) (unread kept : List ℕ) (fresh : unread ≡ []) (left rest taken given : Option (List ℕ)) where
+  -- what was met of the rack below, what that tells in the end, and what the array was opened from
+  abbrev pub facts : Facts
+  facts = met rack none both law start all_in none_absent a opened b goes left rest taken given
+
+  abbrev pub tells : ℕ → Type 0
+  tells = rack.tells (below_of b)
+
+  abbrev began : HasSource (met_by facts) (rack.counts (below_of a))
+  began = from rack none both law start all_in none_absent a opened b goes left rest taken given
+
   abbrev pub first_left : Option (List ℕ)
   first_left = option_map (λ more. unread ++ more) left
 
@@ -65,24 +82,24 @@ module _ {R : Type 0} (rack : Ghosts R) (before : R) (a b : Array R) (opened : H
   lines_on events placed budget = subst (λ (t : Table). AreLines t.shape events) opened.table (record { in_place = placed; budget = budget })
 
   abbrev ran_on : (events : List Event) (replies : List Reply) → All (IsInPlace (Some (shape_of a))) events → length (input_of events) ≤ 2 ^ 40 → VolumeRunsTo rack a events replies b
-      → RanOn (rack.tells (rack_of b)) (met rack before a b opened goes left rest taken given) events replies
+      → RanOn tells facts events replies
   ran_on events replies placed budget runs = record {
-    opened = rack.counts (rack_of a);
-    source = from rack before a b opened goes left rest taken given;
-    rise = goes.rise;
-    others = others rack before a.volume b.volume a.hot taken given opened goes;
+    opened = rack.counts (below_of a);
+    source = began;
+    rise = rise rack none both law start all_in none_absent a opened b goes left rest taken given;
+    others = others rack none both law start all_in none_absent a opened b goes left rest taken given;
     lines = lines_on events placed budget;
-    runs = λ V size. reached rack before a b opened goes left rest taken given V size events replies runs;
+    runs = λ V size. reached rack none both law start all_in none_absent a opened b goes left rest taken given V size events replies runs;
   }
 
   abbrev wanted_on : (events : List Event) (replies : List Reply) → All (IsInPlace (Some (shape_of a))) events → length (input_of events) ≤ 2 ^ 40 → RunsBefore rack a events replies b
-      → WantedOn (rack.tells (rack_of b)) (met rack before a b opened goes left rest taken given) events replies
+      → WantedOn tells facts events replies
   wanted_on events replies placed budget runs = record {
-    opened = rack.counts (rack_of a);
-    source = from rack before a b opened goes left rest taken given;
-    rise = goes.rise;
+    opened = rack.counts (below_of a);
+    source = began;
+    rise = rise rack none both law start all_in none_absent a opened b goes left rest taken given;
     lines = lines_on events placed budget;
-    runs = λ V size. resumed rack before a b opened goes left rest taken given V size events replies runs;
+    runs = λ V size. resumed rack none both law start all_in none_absent a opened b goes left rest taken given V size events replies runs;
   }
 
   served_to : (number : ℕ) (kind : Kind) (z w : Option (List ℕ)) → (s : ServedTo rack (shape_of a) 0 1 number kind first_left last_left z w a b)
@@ -97,9 +114,9 @@ module _ {R : Type 0} (rack : Ghosts R) (before : R) (a b : Array R) (opened : H
       (fresh_told (λ p q. (text : List ℕ) × StopsOn (shape_of a) s.events kind p text) unread left last_left fresh both))
 
   abbrev Cut : Type 0
-  Cut = ResumeCut (rack.tells (rack_of b)) (met rack before a b opened goes left rest taken given) ⊎ ResumeCutRefusal (rack.tells (rack_of b)) (met rack before a b opened goes left rest taken given)
+  Cut = ResumeCut tells facts ⊎ ResumeCutRefusal tells facts
 
-  cut_by : LinesCut rack [] (shape_of a) 0 first_left rest taken given a b ⊎ RefusedInPart rack 0 1 first_left last_left taken given a b → Cut
+  cut_by : LinesCut rack [] (shape_of a) 0 first_left rest taken given a b ⊎ RefusedInPart rack (shape_of a) 0 1 first_left last_left taken given a b → Cut
   cut_by (inl h) = inl (record {
     events = h.events;
     replies = h.replies;
@@ -114,7 +131,7 @@ module _ {R : Type 0} (rack : Ghosts R) (before : R) (a b : Array R) (opened : H
         events = s.events;
         replies = s.served.replies;
         kind = h.kind;
-        ran = ran_on s.events s.served.replies s.served.in_place (omega (arith, s.budget)) (volume_runs rack a b s.events s.served.replies s.served.runs);
+        ran = ran_on s.events s.served.replies s.served.in_place (omega (arith, s.budget)) (weaker_runs rack none both law a b s.events s.served.replies s.served.runs);
         input = served_to h.number h.kind taken h.before s;
         output = up_to (output_of s.served.replies) (refusal (length s.events + 1) h.kind) taken h.before given s.served.output
             (subst (λ (n : ℕ). Told (TookPart (refusal n h.kind)) h.before given) s.count h.refused);
@@ -123,7 +140,7 @@ module _ {R : Type 0} (rack : Ghosts R) (before : R) (a b : Array R) (opened : H
   abbrev Wanting : Type 0
   Wanting =
       (Told AreAny left rest × (given ≡ taken))
-      ⊎ (ResumeWanted (rack.tells (rack_of b)) (met rack before a b opened goes left rest taken given) ⊎ ResumeListed (rack.tells (rack_of b)) (met rack before a b opened goes left rest taken given))
+      ⊎ (ResumeWanted tells facts ⊎ ResumeListed tells facts)
 
   wanted_by : (Told AreAny first_left rest × (given ≡ taken)) ⊎ LinesRanOut rack [] (shape_of a) 0 first_left rest taken given a b → Wanting
   wanted_by (inl h) = inl (fresh_told AreAny unread left rest fresh h.0, h.1)
@@ -137,24 +154,26 @@ module _ {R : Type 0} (rack : Ghosts R) (before : R) (a b : Array R) (opened : H
   wanted_by (inr (inr h)) = inr (inr (record {
     events = h.events;
     replies = h.replies;
-    entries = h.entries;
-    others = h.others;
-    ran = wanted_on (h.events ++ Tree ∷ []) (h.replies ++ Nodes (h.entries ++ h.others) ∷ []) h.in_place (omega (arith, h.budget)) h.runs;
-    input = fresh_told (StartsWith (input_of (h.events ++ Tree ∷ []))) unread left rest fresh h.input;
+    last = h.last;
+    reply = h.reply;
+    text = h.text;
+    lines = h.lines;
+    ran = wanted_on (h.events ++ h.last ∷ []) (h.replies ++ h.reply ∷ []) h.in_place (omega (arith, h.budget)) h.runs;
+    input = fresh_told (StartsWith (input_of (h.events ++ h.last ∷ []))) unread left rest fresh h.input;
     output = h.output;
   }))
 
   pub ends_resume : (status : Status) → (status ≡ Done → AllServed rack (shape_of a) 0 first_left last_left taken given a b)
-      → (status ≡ BadLine → RefusedBehind rack 0 1 first_left last_left taken given a b) → (status ≡ ReadFault → LinesBrokeOff rack [] (shape_of a) 0 first_left rest taken given a b)
-      → (status ≡ WriteFault → LinesCut rack [] (shape_of a) 0 first_left rest taken given a b ⊎ RefusedInPart rack 0 1 first_left last_left taken given a b)
+      → (status ≡ BadLine → RefusedBehind rack (shape_of a) 0 1 first_left last_left taken given a b) → (status ≡ ReadFault → LinesBrokeOff rack [] (shape_of a) 0 first_left rest taken given a b)
+      → (status ≡ WriteFault → LinesCut rack [] (shape_of a) 0 first_left rest taken given a b ⊎ RefusedInPart rack (shape_of a) 0 1 first_left last_left taken given a b)
       → (status ≡ NoMemory → (Told AreAny first_left rest × (given ≡ taken)) ⊎ LinesRanOut rack [] (shape_of a) 0 first_left rest taken given a b)
-      → IsOfReplay status → EndsResume (rack.tells (rack_of b)) (met rack before a b opened goes left rest taken given) status
+      → IsOfReplay status → EndsResume tells facts status
   ends_resume Done all bad broken cut wanting never =
       let h = all refl in
       record {
         events = h.events;
         replies = h.served.replies;
-        ran = ran_on h.events h.served.replies h.served.in_place (omega (arith, h.budget)) (volume_runs rack a b h.events h.served.replies h.served.runs);
+        ran = ran_on h.events h.served.replies h.served.in_place (omega (arith, h.budget)) (weaker_runs rack none both law a b h.events h.served.replies h.served.runs);
         input = rest_ended (λ l. l ≡ input_of h.events) kept left rest (fresh_told (λ p q. (p ≡ input_of h.events) × (q ≡ [])) unread left last_left fresh h.end);
         output = h.served.output;
       }
@@ -165,7 +184,7 @@ module _ {R : Type 0} (rack : Ghosts R) (before : R) (a b : Array R) (opened : H
         events = s.events;
         replies = s.served.replies;
         kind = h.kind;
-        ran = ran_on s.events s.served.replies s.served.in_place (omega (arith, s.budget)) (volume_runs rack a b s.events s.served.replies s.served.runs);
+        ran = ran_on s.events s.served.replies s.served.in_place (omega (arith, s.budget)) (weaker_runs rack none both law a b s.events s.served.replies s.served.runs);
         input = served_to h.number h.kind taken h.before s;
         output = took_last (output_of s.served.replies) (refusal (length s.events + 1) h.kind) taken h.before given s.served.output
             (subst (λ (n : ℕ). Told (Took (refusal n h.kind)) h.before given) s.count h.refused);
@@ -175,7 +194,7 @@ module _ {R : Type 0} (rack : Ghosts R) (before : R) (a b : Array R) (opened : H
       record {
         events = h.events;
         replies = h.replies;
-        ran = ran_on h.events h.replies h.in_place (omega (arith, h.budget)) (volume_runs rack a b h.events h.replies h.runs);
+        ran = ran_on h.events h.replies h.in_place (omega (arith, h.budget)) (weaker_runs rack none both law a b h.events h.replies h.runs);
         input = fresh_told (GaveLines (input_of h.events)) unread left rest fresh h.input;
         output = h.output;
       }

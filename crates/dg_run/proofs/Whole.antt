@@ -1,22 +1,30 @@
 -- A whole replay.
 use Rattle.std.proofs.Common.{◌≡◌, ◌≤◌, ◌<◌, ◌+◌, ◌-◌, ◌/◌, ◌^◌, ℕ, List, [], ◌∷◌, ◌++◌, length, refl, sym, ◌∙◌, ap, subst, arith, append_assoc, inr, length-append}
-use Rattle.std.specs.Prelude.{Option, Some, None, All, Result, Ok, Err, IfOk, IsSome}
+use Rattle.std.specs.Prelude.{false, Option, Some, None, All, Result, Ok, Err, IfOk, IsSome}
 use Rattle.std.proofs.lemmas.List.{append_cancel_left}
 use Rattle.std.proofs.lemmas.List.Concat.{flat_map-append}
 use Rattle.dg_model.specs.Shapes.{IsShape}
+use Rattle.dg_model.specs.Moments.{Moment}
+use Rattle.dg_model.specs.Moments.Kind.{plain}
 use Rattle.dg_model.specs.States.{Counts, State, plain_state}
-use Rattle.dg_model.proofs.KnownLaws.{run_less}
-use Rattle.dg_model.specs.Runs.{Run}
-use Rattle.dg_run.proofs.BeyondLaws.{run_beyond}
+use Rattle.dg_io.specs.Makes.{Makes}
+use Rattle.dg_io.specs.MakesLaws.{makes_both}
+use Rattle.dg_io.specs.RackCalls.{RackCall}
+use Rattle.dg_io.specs.RackWords.{After}
 use Rattle.dg_io.specs.declared.outside.Rack.{Ghosts}
-use Rattle.dg_run.specs.Steps.{GoesOn, IsBlankArray, Known, VolumeRunsTo, rack_of, shape_of}
+use Rattle.dg_regroup.specs.declared.live_racks.LiveRack.{LiveRack}
+use Rattle.dg_run.proofs.Continuing.{others_counts, others_same}
+use Rattle.dg_run.proofs.Happening.{history_less, holds_in_use, weaker_runs}
+use Rattle.dg_run.specs.Histories.{Continues, IsBlankReady, KnownBy, VolumeRunsTo, below_of, boundaries_of, moment_of}
+use Rattle.dg_run.specs.Steps.{shape_of}
+use Rattle.dg_store.specs.Leaves.{IsCallBelow}
 use Rattle.dg_model.specs.declared.shapes.Shape.{Shape}
 use Rattle.dg_model.specs.declared.events.Event.{Event}
 use Rattle.dg_model.specs.declared.events.Event.TheVariants.{Array as MakeArray}
 use Rattle.dg_model.specs.declared.replies.Reply.{Reply}
 use Rattle.dg_model.specs.declared.replies.Reply.TheVariants.{Done}
 use Rattle.dg_model.specs.declared.members.MemberState.TheVariants.{Out}
-use Rattle.dg_io.specs.MadeLaws.{same_both, same_told}
+use Rattle.dg_io.specs.MadeLaws.{same_told}
 use Rattle.dg_io.specs.Told.{Told, Took, TookPart}
 use Rattle.dg_run.specs.declared.arrays.Array.{Array}
 use Rattle.dg_text.specs.Lines.{line_of, input_of, IsInPlace}
@@ -30,12 +38,8 @@ use Rattle.dg_run.specs.Refusals.{IsRefusedBy}
 use Rattle.dg_run.specs.Replays.{CutRefusal, IsCut, IsNoInput, OthersKept, Ran, Replayed, Stopped, StopsAt, TellsBoundaries}
 use Rattle.dg_run.specs.Arrays.{AllAnswered, AnsweredTo, ArrayReplayed, ArrayStopped, IsCutAt}
 use Rattle.dg_run.proofs.Inputs.{All-head, All-right, no_line}
-use Rattle.dg_run.proofs.Runs.{volume_runs}
 use Rattle.dg_volume.specs.Origins.{Always}
 use Rattle.dg_volume.specs.Origins.Origin.{nothing}
-use Rattle.dg_volume.specs.HeldLaws.{holds_all}
-use Rattle.dg_volume.specs.Volumes.{any_phase}
-use Rattle.dg_volume.specs.Volumes as volumes
 use Rattle.std.specs.Option.{option_map}
 use Rattle.dg_run.proofs.Refusing.{empty_cut}
 use Rattle.dg_run.proofs.ToldSteps.{Told-each, Told-then}
@@ -47,53 +51,50 @@ took_first rs t m v p q = Told-then _ _ (Took (output_of (Done ∷ rs))) (λ a b
 pub took_last : (text last : List ℕ) (t m v : Option (List ℕ)) → Told (Took text) t m → Told (Took last) m v → Told (Took (text ++ last)) t v
 took_last text last t m v p q = Told-then _ _ (Took (text ++ last)) (λ a b c f s. s ∙ ap (λ (l : List ℕ). l ++ last) f ∙ append_assoc a text last) t m v p q
 
-module _ {R : Type 0} (ghosts : Ghosts R) (shape : Shape) (first : ℕ) (rack : R) (a b : Array R) (is : first ≡ length (line_of (MakeArray shape))) (well : IsShape shape)
-    (blank : IsBlankArray ghosts shape rack a) (goes : GoesOn ghosts a b) where
+module _ {R : Type 0} (ghosts : Ghosts R) (none : (s : R) → ghosts.made s [] s)
+    (both : (a b c : R) (x y : List RackCall) → ghosts.made a x b → ghosts.made b y c → ghosts.made a (x ++ y) c) (law : (a b : R) (made : List RackCall) → ghosts.made a made b → After ghosts made a b)
+    (shape : Shape) (first : ℕ) (rack : R) (a b : Array (LiveRack R)) (is : first ≡ length (line_of (MakeArray shape))) (well : IsShape shape)
+    (blank : IsBlankReady ghosts shape rack a) (goes : Continues ghosts a b) where
   pub same_shape : shape_of a ≡ shape
   same_shape = blank.shape_is
 
-  -- the members behind the array's own were left alone
-  abbrev Others : Shape → Type 0
-  Others numbers = OthersKept numbers (ghosts.counts rack) (ghosts.counts (rack_of b)) (ghosts.bytes rack) (ghosts.bytes (rack_of b))
+  -- the calls from the first line on
+  pub made_all : Makes ghosts (IsCallBelow shape.b) rack (below_of b)
+  made_all = makes_both ghosts (IsCallBelow shape.b) rack (below_of a) (below_of b) blank.made
+      (subst (λ (n : ℕ). Makes ghosts (IsCallBelow n) (below_of a) (below_of b)) blank.boundaries goes.made)
 
-  others_kept : (events : List Event) (replies : List Reply) (final : State) → volumes.StandsIn any_phase ghosts Always b.volume final → All (IsInPlace (Some (shape_of a))) events
-      → Run (Known Always ghosts b) blank.state events replies final → Others final.table.shape
-  others_kept events replies final stands placed run =
-      let numbers : final.table.shape ≡ shape = ap (λ (s : State). s.table.shape) stands.is ∙ goes.shape ∙ same_shape in
-      let first : blank.state.table.shape ≡ shape = ap (λ (s : State). s.table.shape) blank.blank.is in
-      let counts : final.counts ≡ ghosts.counts (rack_of b) = ap (λ (s : State). s.counts) stands.is in
-      let at : Others shape = record {
-        held = λ q past. same_both _ _ _ (blank.others q past) (goes.own.other_bytes q (subst (λ (s : Shape). s.b ≤ q / 2) (sym same_shape) past));
-        faults = λ q past.
-            sym (ap (λ (c : Counts). c.faults q) counts)
-            ∙ run_beyond (Known Always ghosts b) (shape_of a) blank.state events replies final placed run q (subst (λ (s : Shape). s.b ≤ q / 2) (sym first) past)
-            ∙ blank.blank.beyond q past;
-      } in
-      subst Others (sym numbers) at
+  -- the members behind the first line's boundaries were left alone
+  others_kept : OthersKept (boundaries_of b) (ghosts.counts rack) (ghosts.counts (below_of b)) (ghosts.bytes rack) (ghosts.bytes (below_of b))
+  others_kept =
+      let line : boundaries_of b ≡ shape.b = goes.boundaries ∙ blank.boundaries in
+      record {
+        held = λ q past. others_same ghosts none both law shape.b rack (below_of b) made_all q (subst (λ (n : ℕ). n ≤ q / 2) line past);
+        faults = λ q past. others_counts ghosts none both law shape.b rack (below_of b) made_all q (subst (λ (n : ℕ). n ≤ q / 2) line past);
+      }
 
   pub ran_of : (events : List Event) (replies : List Reply) → VolumeRunsTo ghosts a events replies b → All (IsInPlace (Some (shape_of a))) events → first + length (input_of events) ≤ 2 ^ 40
-      → Ran (ghosts.counts rack) (ghosts.counts (rack_of b)) (ghosts.bytes rack) (ghosts.bytes (rack_of b)) (ghosts.tells (rack_of b)) (MakeArray shape ∷ events) (Done ∷ replies)
+      → Ran (ghosts.counts rack) (ghosts.counts (below_of b)) (ghosts.bytes rack) (ghosts.bytes (below_of b)) (ghosts.tells (below_of b)) (MakeArray shape ∷ events) (Done ∷ replies)
   ran_of events replies runs placed budget =
       let W = runs nothing blank.state blank.stands in
-      let final = W.0 in
-      let stands : volumes.StandsIn any_phase ghosts Always b.volume final = W.1 in
-      let known : TellsBoundaries (ghosts.tells (rack_of b)) final → Known Always ghosts b =
-      λ told. ((λ q below. told q (subst (λ (n : ℕ). q / 2 < n) (sym (ap (λ (s : State). s.table.shape.b) stands.is)) below)), tt) in
+      let final = moment_of ghosts b W.next in
+      let line : W.next.boundaries ≡ boundaries_of b = ap (λ (s : State). s.boundaries) W.stands.is in
+      let known : TellsBoundaries (ghosts.tells (below_of b)) W.next → KnownBy Always ghosts b =
+      λ told. ((λ q below. told q (subst (λ (n : ℕ). q / 2 < n) (sym line) below)), tt) in
       record {
         in_place = (well, subst (λ (s : Shape). All (IsInPlace (Some s)) events) same_shape placed);
         budget = omega (arith, length-append (line_of (MakeArray shape)) (input_of events));
         final = final;
-        trace = (blank.state, blank.blank, run_less known blank.state events replies final W.2);
-        holds = λ told. holds_all ghosts b.volume any_phase final goes.well stands (known told);
-        others = others_kept events replies final stands placed W.2;
-        counts = ap (λ (s : State). s.counts) stands.is;
+        history = (moment_of ghosts a blank.state, blank.makes, history_less known plain (moment_of ghosts a blank.state) events replies final W.history);
+        holds = λ told. holds_in_use ghosts none both law b W.next goes.ready W.stands (let k = known told in (k.0, W.known k.0 k.1));
+        others = subst (λ (n : ℕ). OthersKept n (ghosts.counts rack) (ghosts.counts (below_of b)) (ghosts.bytes rack) (ghosts.bytes (below_of b))) (sym line) others_kept;
+        counts = refl;
       }
 
   ran : (events : List Event) (x z t v : Option (List ℕ)) → (served : Served ghosts (shape_of a) events x z t v a b) → first + length (input_of events) ≤ 2 ^ 40
-      → Ran (ghosts.counts rack) (ghosts.counts (rack_of b)) (ghosts.bytes rack) (ghosts.bytes (rack_of b)) (ghosts.tells (rack_of b)) (MakeArray shape ∷ events) (Done ∷ served.replies)
-  ran events x z t v served budget = ran_of events served.replies (volume_runs ghosts a b events served.replies served.runs) served.in_place budget
+      → Ran (ghosts.counts rack) (ghosts.counts (below_of b)) (ghosts.bytes rack) (ghosts.bytes (below_of b)) (ghosts.tells (below_of b)) (MakeArray shape ∷ events) (Done ∷ served.replies)
+  ran events x z t v served budget = ran_of events served.replies (weaker_runs ghosts none both law a b events served.replies served.runs) served.in_place budget
 
-  pub array_replayed : (x z t v : Option (List ℕ)) → AllAnswered ghosts first x z t v a b → ArrayReplayed (ghosts.counts rack) (ghosts.counts (rack_of b)) (ghosts.bytes rack) (ghosts.bytes (rack_of b)) (ghosts.tells (rack_of b)) shape x z t v
+  pub array_replayed : (x z t v : Option (List ℕ)) → AllAnswered ghosts (shape_of a) first x z t v a b → ArrayReplayed (ghosts.counts rack) (ghosts.counts (below_of b)) (ghosts.bytes rack) (ghosts.bytes (below_of b)) (ghosts.tells (below_of b)) shape x z t v
   array_replayed x z t v all = record {
     events = all.served.events;
     replies = all.served.served.replies;
@@ -114,7 +115,7 @@ module _ {R : Type 0} (ghosts : Ghosts R) (shape : Shape) (first : ℕ) (rack : 
         },
       )) x s.middle z s.served.input s.refused
 
-  pub array_stopped : (x z t v : Option (List ℕ)) → AnsweredTo ghosts first x z t v a b → ArrayStopped (ghosts.counts rack) (ghosts.counts (rack_of b)) (ghosts.bytes rack) (ghosts.bytes (rack_of b)) (ghosts.tells (rack_of b)) shape x z t v
+  pub array_stopped : (x z t v : Option (List ℕ)) → AnsweredTo ghosts (shape_of a) first x z t v a b → ArrayStopped (ghosts.counts rack) (ghosts.counts (below_of b)) (ghosts.bytes rack) (ghosts.bytes (below_of b)) (ghosts.tells (below_of b)) shape x z t v
   array_stopped x z t v to =
       let s = to.served in
       record {
@@ -182,8 +183,11 @@ module _ (before now : Counts) (images bytes : ℕ → Option (List ℕ)) (tells
     output = subst (λ (n : ℕ). Told (Took (output_of (Done ∷ rest.replies) ++ refusal n rest.kind)) t v) (omega arith) rest.output;
   }
 
-unmade : Counts → State
-unmade now = plain_state (record { shape = record { l = 0; n = 0; b = 0; k = 0; m = 0 }; rows = [] }) [] (λ q. Out) now
+unmade : Counts → Moment
+unmade now = record {
+  state = plain_state (record { shape = record { l = 0; n = 0; b = 0; k = 0; m = 0 }; rows = [] }) [] (λ q. Out) now;
+  beneath = record { counts = now; out = λ d. false };
+}
 
 -- the text is refused by this kind where the first line should stand
 pub record IsNoFirst (kind : Kind) (text : List ℕ) : Type 0 where
@@ -208,12 +212,17 @@ ran_nothing now bytes tells = record {
   in_place = tt;
   budget = omega arith;
   final = unmade now;
-  trace = record { is = refl; boundaries = refl; size = refl; rows = refl };
+  history = (record { is = refl; boundaries = refl; size = refl; rows = refl }, refl);
   holds = λ told. record {
-    blocks = record { size = refl; blank = λ b h e. absurd (omega arith); held = λ b h. absurd (omega arith) };
-    label = tt;
-    sizes = λ whole. tt;
-    fresh = λ q below. absurd (omega arith);
+    seen = bytes;
+    at = λ q low. absurd (omega (arith, low));
+    whole = λ all q low. refl;
+    holds = record {
+      blocks = record { size = refl; blank = λ b h e. absurd (omega arith); held = λ b h. absurd (omega arith) };
+      label = tt;
+      sizes = λ whole. tt;
+      fresh = λ q below. absurd (omega arith);
+    };
   };
   others = record { held = λ q past. same_told (bytes q); faults = λ q past. refl };
   counts = refl;

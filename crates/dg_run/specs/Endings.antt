@@ -4,15 +4,14 @@ use Rattle.dg_io.specs.declared.outside.Rack.{Ghosts}
 use Rattle.dg_io.specs.Told.{AreAny, Told, Took}
 use Rattle.dg_model.specs.declared.shapes.Shape.{Shape}
 use Rattle.dg_model.specs.declared.events.Event.{Event}
-use Rattle.dg_model.specs.declared.events.Event.TheVariants.{Tree}
 use Rattle.dg_model.specs.declared.replies.Reply.{Reply}
-use Rattle.dg_model.specs.declared.replies.Reply.TheVariants.{Nodes}
+use Rattle.dg_regroup.specs.declared.live_racks.LiveRack.{LiveRack}
 use Rattle.dg_run.specs.declared.arrays.Array.{Array}
 use Rattle.dg_text.specs.Lines.{line_of, input_of, IsInPlace}
-use Rattle.dg_text.specs.Replies.{nodes_text, output_of, reply_line}
+use Rattle.dg_text.specs.Replies.{output_of, reply_line}
 use Rattle.dg_run.specs.Bytes.{HasNoLineFeed}
-use Rattle.dg_run.specs.Steps.{AnsweredBefore, AnsweredPart, ListedBefore, RunsBefore, RunsTo, VolumeRunsTo}
-use Rattle.ufs_model.specs.Listings.{Listed}
+use Rattle.dg_run.specs.Histories.{EventCut, EventDone, EventListed, RunsBefore, RunsTo, VolumeRunsTo}
+use Rattle.dg_run.specs.Steps.{BeginsLines}
 
 -- a source gave these lines, and behind them some bytes without a line feed
 pub record GaveLines (lines before after : List ℕ) : Type 0 where
@@ -31,28 +30,28 @@ pub record TookUpTo (whole part before after : List ℕ) : Type 0 where
   pub is : after ≡ before ++ (whole ++ take n part)
 
 -- one line was taken, of no more bytes than the room, its event was done, and a part of its reply was written
-pub record ServedLinePart {R : Type 0} (rack : Ghosts R) (shape : Shape) (room : ℕ) (left rest taken given : Option (List ℕ)) (old new : Array R) : Type 0 where
+pub record ServedLinePart {R : Type 0} (rack : Ghosts R) (shape : Shape) (room : ℕ) (left rest taken given : Option (List ℕ)) (old new : Array (LiveRack R)) : Type 0 where
   pub event : Event
   pub in_place : IsInPlace (Some shape) event
   pub within : length (line_of event) ≤ room
   pub input : Told (StartsWith (line_of event)) left rest
-  pub answered : AnsweredPart rack event taken given old new
+  pub answered : EventCut rack event taken given old new
 
 -- one line was taken, of no more bytes than the room, and memory was wanting for its event
-pub record WantedLine {R : Type 0} (rack : Ghosts R) (shape : Shape) (room : ℕ) (left rest taken given : Option (List ℕ)) (old now : Array R) : Type 0 where
+pub record WantedLine {R : Type 0} (rack : Ghosts R) (shape : Shape) (room : ℕ) (left rest taken given : Option (List ℕ)) (old now : Array (LiveRack R)) : Type 0 where
   pub event : Event
   pub in_place : IsInPlace (Some shape) event
   pub within : length (line_of event) ≤ room
   pub input : Told (StartsWith (line_of event)) left rest
-  pub answered : AnsweredBefore rack event taken given old now ⊎ ListedBefore rack event taken given old now
+  pub answered : EventDone rack event taken given old now ⊎ EventListed rack event taken given old now
 
 -- memory was wanting for a line: nothing of a reply was written, or the whole one, or the first entries of a listing
-abbrev pub RanOutAt : {R : Type 0} → Ghosts R → Shape → ℕ → Option (List ℕ) → Option (List ℕ) → Option (List ℕ) → Option (List ℕ) → Array R → Array R → Type 0
+abbrev pub RanOutAt : {R : Type 0} → Ghosts R → Shape → ℕ → Option (List ℕ) → Option (List ℕ) → Option (List ℕ) → Option (List ℕ) → Array (LiveRack R) → Array (LiveRack R) → Type 0
 RanOutAt rack shape room left rest taken given old now =
     (Told AreAny left rest × (given ≡ taken)) ⊎ WantedLine rack shape room left rest taken given old now
 
 -- all lines that the source gave whole were served, and then it failed. `front` was written before their replies
-pub record LinesBrokeOff {R : Type 0} (rack : Ghosts R) (front : List ℕ) (shape : Shape) (first : ℕ) (left rest taken given : Option (List ℕ)) (old new : Array R) : Type 0 where
+pub record LinesBrokeOff {R : Type 0} (rack : Ghosts R) (front : List ℕ) (shape : Shape) (first : ℕ) (left rest taken given : Option (List ℕ)) (old new : Array (LiveRack R)) : Type 0 where
   pub events : List Event
   pub replies : List Reply
   pub in_place : All (IsInPlace (Some shape)) events
@@ -62,7 +61,7 @@ pub record LinesBrokeOff {R : Type 0} (rack : Ghosts R) (front : List ℕ) (shap
   pub output : Told (Took (front ++ output_of replies)) taken given
 
 -- lines were served, and of the last reply only a part was written
-pub record LinesCut {R : Type 0} (rack : Ghosts R) (front : List ℕ) (shape : Shape) (first : ℕ) (left rest taken given : Option (List ℕ)) (old new : Array R) : Type 0 where
+pub record LinesCut {R : Type 0} (rack : Ghosts R) (front : List ℕ) (shape : Shape) (first : ℕ) (left rest taken given : Option (List ℕ)) (old new : Array (LiveRack R)) : Type 0 where
   pub events : List Event
   pub replies : List Reply
   pub last : Reply
@@ -73,7 +72,7 @@ pub record LinesCut {R : Type 0} (rack : Ghosts R) (front : List ℕ) (shape : S
   pub output : Told (TookUpTo (front ++ output_of replies) (reply_line last)) taken given
 
 -- lines were served, and behind them memory was wanting
-pub record LinesWanted {R : Type 0} (rack : Ghosts R) (front : List ℕ) (shape : Shape) (first : ℕ) (left rest taken given : Option (List ℕ)) (old new : Array R) : Type 0 where
+pub record LinesWanted {R : Type 0} (rack : Ghosts R) (front : List ℕ) (shape : Shape) (first : ℕ) (left rest taken given : Option (List ℕ)) (old new : Array (LiveRack R)) : Type 0 where
   pub events : List Event
   pub replies : List Reply
   pub in_place : All (IsInPlace (Some shape)) events
@@ -82,19 +81,21 @@ pub record LinesWanted {R : Type 0} (rack : Ghosts R) (front : List ℕ) (shape 
   pub input : Told (StartsWith (input_of events)) left rest
   pub output : Told (Took (front ++ output_of replies)) taken given
 
--- lines were served, and of a listing that may answer the next one, which asks for all directories, only the first entries were written
-pub record LinesListed {R : Type 0} (rack : Ghosts R) (front : List ℕ) (shape : Shape) (first : ℕ) (left rest taken given : Option (List ℕ)) (old new : Array R) : Type 0 where
+-- lines were served, and of a listing that may answer the last one only the first lines were written
+pub record LinesListed {R : Type 0} (rack : Ghosts R) (front : List ℕ) (shape : Shape) (first : ℕ) (left rest taken given : Option (List ℕ)) (old new : Array (LiveRack R)) : Type 0 where
   pub events : List Event
   pub replies : List Reply
-  pub entries : List Listed
-  pub others : List Listed
-  pub in_place : All (IsInPlace (Some shape)) (events ++ Tree ∷ [])
-  pub budget : first + length (input_of (events ++ Tree ∷ [])) ≤ 2 ^ 40
-  pub runs : RunsBefore rack old (events ++ Tree ∷ []) (replies ++ Nodes (entries ++ others) ∷ []) new
-  pub input : Told (StartsWith (input_of (events ++ Tree ∷ []))) left rest
-  pub output : Told (Took (front ++ (output_of replies ++ nodes_text entries))) taken given
+  pub last : Event
+  pub reply : Reply
+  pub text : List ℕ
+  pub lines : BeginsLines last reply text
+  pub in_place : All (IsInPlace (Some shape)) (events ++ last ∷ [])
+  pub budget : first + length (input_of (events ++ last ∷ [])) ≤ 2 ^ 40
+  pub runs : RunsBefore rack old (events ++ last ∷ []) (replies ++ reply ∷ []) new
+  pub input : Told (StartsWith (input_of (events ++ last ∷ []))) left rest
+  pub output : Told (Took (front ++ (output_of replies ++ text))) taken given
 
 -- memory was wanting behind lines that were served: no reply was written in part, or a listing was, to the end of an entry
-abbrev pub LinesRanOut : {R : Type 0} → Ghosts R → List ℕ → Shape → ℕ → Option (List ℕ) → Option (List ℕ) → Option (List ℕ) → Option (List ℕ) → Array R → Array R → Type 0
+abbrev pub LinesRanOut : {R : Type 0} → Ghosts R → List ℕ → Shape → ℕ → Option (List ℕ) → Option (List ℕ) → Option (List ℕ) → Option (List ℕ) → Array (LiveRack R) → Array (LiveRack R) → Type 0
 LinesRanOut rack front shape first left rest taken given old new =
     LinesWanted rack front shape first left rest taken given old new ⊎ LinesListed rack front shape first left rest taken given old new

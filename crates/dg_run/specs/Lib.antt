@@ -5,11 +5,13 @@ pub mod Completes
 pub mod Endings
 pub mod Ends
 pub mod Events
+pub mod Histories
 pub mod Inputs
 pub mod Lines
 pub mod Opened
 pub mod Plain
 pub mod Refusals
+pub mod Regroups
 pub mod Replays
 pub mod Resumes
 pub mod Scans

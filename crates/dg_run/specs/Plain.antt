@@ -1,7 +1,11 @@
--- Which events have the plainest answer.
-use Rattle.std.specs.Prelude.{Bool, true, false}
+-- Which events have the plainest answer, and how an array of mirrored pairs answers.
+use Rattle.std.specs.Prelude.{◌≡◌, ◌<◌, Bool, true, false, length}
 use Rattle.dg_model.specs.declared.events.Event.{Event}
-use Rattle.dg_model.specs.declared.events.Event.TheVariants.{Audit, Write, Fail, Replace, Rebuild, Settle, Tend, Diffuse, Who, Home, Save}
+use Rattle.dg_model.specs.declared.events.Event.TheVariants.{Audit, Write, Fail, Replace, Rebuild, Settle, Tend, Diffuse, Who, Home, Save, DropDisk, MendDisk}
+use Rattle.dg_model.specs.declared.replies.Reply.{Reply}
+use Rattle.dg_model.specs.declared.replies.Reply.TheVariants.{Lost, NotParity, Saved}
+use Rattle.dg_run.specs.declared.arrays.Array.{Array}
+use Rattle.dg_volume.specs.Volumes as volumes
 
 -- whether an event is answered by one reply that is known whole before it is written, and tells no bytes of a block
 abbrev pub is_plain : Event → Bool
@@ -16,4 +20,19 @@ is_plain (Who b) = true
 is_plain (Home path) = true
 is_plain Save = true
 is_plain Audit = true
+is_plain (DropDisk s j) = true
+is_plain (MendDisk s j) = true
 is_plain event = false
+
+-- a boundary of the first line isn't in use
+abbrev pub IsReduced : {R : Type 0} → Array R → Type 0
+IsReduced array = length (volumes.live_of array.volume) < (volumes.reduced_of array.volume).boundaries
+
+-- So an array answers whose rack keeps no checkpoint and has no disks: it is saved only where all boundaries are in use, and there is no disk to take
+-- out or to mend.
+abbrev pub IsOfPairs : {R : Type 0} → Array R → Event → Reply → Type 0
+IsOfPairs array Save (Saved q) = IsReduced array → ⊥
+IsOfPairs array Save (Lost s) = IsReduced array → ⊥
+IsOfPairs array (DropDisk s j) reply = reply ≡ NotParity
+IsOfPairs array (MendDisk s j) reply = reply ≡ NotParity
+IsOfPairs array event reply = Unit {0}

@@ -1,19 +1,19 @@
 -- What a whole replay means: the events of its input, their replies, and what the rack holds at the end.
 use Rattle.std.specs.Prelude.{◌≡◌, ◌⊎◌, ◌≤◌, ◌<◌, ◌+◌, ◌-◌, ◌/◌, ◌^◌, ◌++◌, [], ◌∷◌, ℕ, List, length, Option, Some, None}
+use Rattle.dg_model.specs.Lives.{member_at}
+use Rattle.dg_model.specs.Moments.{HistoryOf, Moment}
 use Rattle.dg_model.specs.States.{Counts, HoldsAll, State}
-use Rattle.dg_model.specs.Runs.{Trace}
 use Rattle.dg_model.specs.declared.shapes.Shape.{Shape}
 use Rattle.dg_model.specs.declared.events.Event.{Event}
-use Rattle.dg_model.specs.declared.events.Event.TheVariants.{Array, Tree}
+use Rattle.dg_model.specs.declared.events.Event.TheVariants.{Array}
 use Rattle.dg_model.specs.declared.replies.Reply.{Reply}
-use Rattle.dg_model.specs.declared.replies.Reply.TheVariants.{Nodes}
 use Rattle.dg_io.specs.Told.{IsSame, Told, Took}
 use Rattle.dg_text.specs.Lines.{line_of, input_of, IsInPlace, AreInPlace}
-use Rattle.dg_text.specs.Replies.{nodes_text, output_of, refusal, reply_line}
+use Rattle.dg_text.specs.Replies.{output_of, refusal, reply_line}
 use Rattle.dg_text.specs.declared.lines.BadLine.{BadLine}
 use Rattle.dg_run.specs.Endings.{GaveLines, StartsWith, TookUpTo}
 use Rattle.dg_run.specs.Refusals.{IsRefusedBy}
-use Rattle.ufs_model.specs.Listings.{Listed}
+use Rattle.dg_run.specs.Steps.{BeginsLines}
 
 -- the shape of the array that the first event made
 abbrev pub shape_after : List Event → Option Shape
@@ -21,28 +21,35 @@ shape_after [] = None
 shape_after (Array shape ∷ events) = Some shape
 shape_after (event ∷ events) = None
 
--- of each member of a state's boundaries the rack tells the bytes as long as the member stands
+-- of each member of the boundaries of a state's first line the rack tells the bytes as long as the member stands
 abbrev pub TellsBoundaries : (ℕ → Type 0) → State → Type 0
-TellsBoundaries tells state = (q : ℕ) → q / 2 < state.table.shape.b → tells q
+TellsBoundaries tells state = (q : ℕ) → q / 2 < state.boundaries → tells q
 
--- The members behind those of an array of this shape were left alone: each has the bytes that it had (`images`), where it tells them, and
+-- The members behind those of the first line's boundaries were left alone: each has the bytes that it had (`images`), where it tells them, and
 -- the count of faults that it had.
-pub record OthersKept (shape : Shape) (before now : Counts) (images bytes : ℕ → Option (List ℕ)) : Type 0 where
-  pub held : (q : ℕ) → shape.b ≤ q / 2 → Told IsSame (images q) (bytes q)
-  pub faults : (q : ℕ) → shape.b ≤ q / 2 → now.faults q ≡ before.faults q
+pub record OthersKept (boundaries : ℕ) (before now : Counts) (images bytes : ℕ → Option (List ℕ)) : Type 0 where
+  pub held : (q : ℕ) → boundaries ≤ q / 2 → Told IsSame (images q) (bytes q)
+  pub faults : (q : ℕ) → boundaries ≤ q / 2 → now.faults q ≡ before.faults q
 
--- The events are in their places, and their lines keep to the budget of 2^40 bytes. They had these replies, in steps of the array
--- from nothing to a final state, which has the counts of the rack. Where the rack still tells each member of the array at the end (`tells`),
--- of which some may have fallen by then, the steps are known in their bytes too, and the members hold the blocks of the final state, and the
--- last label where they keep it. The members behind the array's own were left alone.
+-- The members of the boundaries in use hold the state: each is seen at its place. Where all boundaries are in use, each of the first 32 members is.
+pub record HoldsInUse (bytes : ℕ → Option (List ℕ)) (state : State) : Type 0 where
+  pub seen : ℕ → Option (List ℕ)
+  pub at : (q : ℕ) → q / 2 < length state.live → seen q ≡ bytes (member_at state.live q)
+  pub whole : length state.live ≡ state.boundaries → (q : ℕ) → q < 32 → seen q ≡ bytes q
+  pub holds : HoldsAll seen state
+
+-- The events are in their places, and their lines keep to the budget of 2^40 bytes. They had these replies, in steps of the array from nothing to a
+-- final moment, whose counts are those of the rack. Where the rack still tells each member of the first line's boundaries at the end (`tells`), of which
+-- some may have fallen by then, the steps are known in their bytes too, and the members in use hold the blocks of the final state, and the last label
+-- where they keep it. The members behind those were left alone.
 pub record Ran (before now : Counts) (images bytes : ℕ → Option (List ℕ)) (tells : ℕ → Type 0) (events : List Event) (replies : List Reply) : Type 0 where
   pub in_place : AreInPlace events
   pub budget : length (input_of events) ≤ 2 ^ 40
-  pub final : State
-  pub trace : Trace (TellsBoundaries tells final) before events replies final
-  pub holds : TellsBoundaries tells final → HoldsAll bytes final
-  pub others : OthersKept final.table.shape before now images bytes
-  pub counts : final.counts ≡ now
+  pub final : Moment
+  pub history : HistoryOf (TellsBoundaries tells final.state) before events replies final
+  pub holds : TellsBoundaries tells final.state → HoldsInUse bytes final.state
+  pub others : OthersKept final.state.boundaries before now images bytes
+  pub counts : final.beneath.counts ≡ now
 
 -- the input was read to its end, and is the lines of these events; the output is the text of their replies
 pub record Replayed (before now : Counts) (images bytes : ℕ → Option (List ℕ)) (tells : ℕ → Type 0) (left rest taken given : Option (List ℕ)) : Type 0 where
@@ -122,24 +129,26 @@ pub record RanOutBetween (before : Counts) (tells : ℕ → Type 0) (left rest t
   pub replies : List Reply
   pub in_place : AreInPlace events
   pub budget : length (input_of events) ≤ 2 ^ 40
-  pub final : State
-  pub trace : Trace (TellsBoundaries tells final) before events replies final
+  pub final : Moment
+  pub history : HistoryOf (TellsBoundaries tells final.state) before events replies final
   pub input : Told (StartsWith (input_of events)) left rest
   pub output : Told (Took (output_of replies)) taken given
 
--- Memory was wanting within a listing of all directories: the input begins with the lines of these events and then a `tree`. The output is
--- the text of their replies, and then the lines of the first entries of a listing with which the `tree` may be answered in the next step.
+-- Memory was wanting within a listing: the input begins with the lines of these events, the last of which asks for it. The output is the text of the
+-- replies to those before, and then the first lines of a listing with which the last one may be answered in the next step.
 pub record RanOutWithin (before : Counts) (tells : ℕ → Type 0) (left rest taken given : Option (List ℕ)) : Type 0 where
   pub events : List Event
   pub replies : List Reply
-  pub entries : List Listed
-  pub others : List Listed
-  pub in_place : AreInPlace (events ++ Tree ∷ [])
-  pub budget : length (input_of (events ++ Tree ∷ [])) ≤ 2 ^ 40
-  pub final : State
-  pub trace : Trace (TellsBoundaries tells final) before (events ++ Tree ∷ []) (replies ++ Nodes (entries ++ others) ∷ []) final
-  pub input : Told (StartsWith (input_of (events ++ Tree ∷ []))) left rest
-  pub output : Told (Took (output_of replies ++ nodes_text entries)) taken given
+  pub last : Event
+  pub reply : Reply
+  pub text : List ℕ
+  pub lines : BeginsLines last reply text
+  pub in_place : AreInPlace (events ++ last ∷ [])
+  pub budget : length (input_of (events ++ last ∷ [])) ≤ 2 ^ 40
+  pub final : Moment
+  pub history : HistoryOf (TellsBoundaries tells final.state) before (events ++ last ∷ []) (replies ++ reply ∷ []) final
+  pub input : Told (StartsWith (input_of (events ++ last ∷ []))) left rest
+  pub output : Told (Took (output_of replies ++ text)) taken given
 
 -- memory was wanting: no reply was written in part, or a listing was, to the end of an entry
 abbrev pub RanOut : Counts → (ℕ → Type 0) → Option (List ℕ) → Option (List ℕ) → Option (List ℕ) → Option (List ℕ) → Type 0

@@ -3,23 +3,21 @@ use Rattle.std.specs.Prelude.{◌≡◌, ◌⊎◌, ◌≤◌, ◌+◌, ◌-◌,
 use Rattle.dg_io.specs.Told.{AreAny, Told, Took}
 use Rattle.dg_model.specs.States.{Counts, CountsRise}
 use Rattle.dg_model.specs.declared.events.Event.{Event}
-use Rattle.dg_model.specs.declared.events.Event.TheVariants.{Tree}
 use Rattle.dg_model.specs.declared.replies.Reply.{Reply}
-use Rattle.dg_model.specs.declared.replies.Reply.TheVariants.{Nodes}
 use Rattle.dg_model.specs.declared.shapes.Shape.{Shape}
 use Rattle.dg_run.specs.Calls.{Facts, met_by}
 use Rattle.dg_run.specs.Endings.{GaveLines, StartsWith, TookUpTo}
 use Rattle.dg_run.specs.Events.{IsRefused}
 use Rattle.dg_run.specs.Opened.{ReadsNothing, Reached, Resumed}
+use Rattle.dg_run.specs.Steps.{BeginsLines}
 use Rattle.dg_run.specs.declared.top.Status.{Status}
 use Rattle.dg_run.specs.declared.top.Status.TheVariants.{Done, BadLine, ReadFault, WriteFault, NoMemory, NoState, Unclean}
 use Rattle.dg_saved.specs.Ends.{CutUnopened, Printed}
 use Rattle.dg_saved.specs.Saved.{FoundNoState, FoundUnclean, HasSource, OthersKept}
 use Rattle.dg_saved.specs.Texts.{nostate_text, unclean_text}
 use Rattle.dg_text.specs.Lines.{IsInPlace, input_of}
-use Rattle.dg_text.specs.Replies.{nodes_text, output_of, refusal, reply_line}
+use Rattle.dg_text.specs.Replies.{output_of, refusal, reply_line}
 use Rattle.dg_text.specs.declared.lines.BadLine.{BadLine as Kind}
-use Rattle.ufs_model.specs.Listings.{Listed}
 
 -- lines of these events, on an array of this shape
 pub record AreLines (shape : Shape) (events : List Event) : Type 0 where
@@ -103,15 +101,17 @@ pub record ResumeWanted (tells : ℕ → Type 0) (facts : Facts) : Type 0 where
   pub input : Told (StartsWith (input_of events)) facts.left facts.rest
   pub output : Told (Took (output_of replies)) facts.taken facts.given
 
--- memory was wanting within a listing of all directories, of which the first entries were written
+-- memory was wanting within a listing, of which the first lines were written
 pub record ResumeListed (tells : ℕ → Type 0) (facts : Facts) : Type 0 where
   pub events : List Event
   pub replies : List Reply
-  pub entries : List Listed
-  pub others : List Listed
-  pub ran : WantedOn tells facts (events ++ Tree ∷ []) (replies ++ Nodes (entries ++ others) ∷ [])
-  pub input : Told (StartsWith (input_of (events ++ Tree ∷ []))) facts.left facts.rest
-  pub output : Told (Took (output_of replies ++ nodes_text entries)) facts.taken facts.given
+  pub last : Event
+  pub reply : Reply
+  pub text : List ℕ
+  pub lines : BeginsLines last reply text
+  pub ran : WantedOn tells facts (events ++ last ∷ []) (replies ++ reply ∷ [])
+  pub input : Told (StartsWith (input_of (events ++ last ∷ []))) facts.left facts.rest
+  pub output : Told (Took (output_of replies ++ text)) facts.taken facts.given
 
 -- By the status: all lines were done, or those before one that is refused, or before a fault; or no array was opened, and no input was read.
 abbrev pub EndsResume : (ℕ → Type 0) → Facts → Status → Type 0

@@ -1,17 +1,18 @@
 -- An array beside the model's states.
 use Rattle.std.specs.Prelude.{◌≡◌, ◌⊎◌, ◌≤◌, ◌/◌, ◌++◌, ℕ, List, Option, length}
 use Rattle.dg_io.specs.declared.outside.Rack.{Ghosts}
-use Rattle.dg_io.specs.Told.{IsSame, StillTold, Told, Took, TookPart}
-use Rattle.dg_model.specs.Runs.{Run}
+use Rattle.dg_io.specs.Told.{StillTold, Told, Took, TookPart}
+use Rattle.dg_model.specs.Paths.{PathOf}
 use Rattle.dg_model.specs.States.{IsBlank, State}
 use Rattle.dg_model.specs.Steps.{Step}
 use Rattle.dg_model.specs.declared.events.Event.{Event}
-use Rattle.dg_model.specs.declared.events.Event.TheVariants.{Tree}
+use Rattle.dg_model.specs.declared.events.Event.TheVariants.{LostFiles, Tree}
 use Rattle.dg_model.specs.declared.replies.Reply.{Reply}
-use Rattle.dg_model.specs.declared.replies.Reply.TheVariants.{Nodes}
+use Rattle.dg_model.specs.declared.replies.Reply.TheVariants.{LostFiles as LostFilesReply, Nodes}
 use Rattle.dg_model.specs.declared.shapes.Shape.{Shape}
 use Rattle.dg_run.specs.declared.arrays.Array.{Array}
-use Rattle.dg_text.specs.Replies.{nodes_text, reply_line}
+use Rattle.dg_store.specs.Leaves.{CallsBelow}
+use Rattle.dg_text.specs.Replies.{lost_text, nodes_text, reply_line}
 use Rattle.dg_volume.specs.Origins.{Always, Origin, WasHeld}
 use Rattle.dg_volume.specs.Volumes.{IsWell, Leaves, any_phase}
 use Rattle.dg_volume.specs.Volumes as volumes
@@ -58,21 +59,6 @@ abbrev pub VolumeStepsTo : {R : Type 0} → Ghosts R → Array R → Event → R
 VolumeStepsTo {R = R} rack old event reply new = (origin : Origin R) (state : State) → StandsIn rack (WasHeld rack origin) old state →
     (next : State) × volumes.StandsIn any_phase rack (WasHeld rack origin) new.volume next × Step (Known (WasHeld rack origin) rack new) state event reply next
 
--- a run of steps
-abbrev pub RunsTo : {R : Type 0} → Ghosts R → Array R → List Event → List Reply → Array R → Type 0
-RunsTo {R = R} rack old events replies new = (origin : Origin R) (state : State) → StandsIn rack (WasHeld rack origin) old state →
-    (next : State) × StandsIn rack (WasHeld rack origin) new next × Run (Known (WasHeld rack origin) rack new) state events replies next
-
--- the same, but nothing is said of the inodes that it read last
-abbrev pub VolumeRunsTo : {R : Type 0} → Ghosts R → Array R → List Event → List Reply → Array R → Type 0
-VolumeRunsTo {R = R} rack old events replies new = (origin : Origin R) (state : State) → StandsIn rack (WasHeld rack origin) old state →
-    (next : State) × volumes.StandsIn any_phase rack (WasHeld rack origin) new.volume next × Run (Known (WasHeld rack origin) rack new) state events replies next
-
--- the same, but nothing is said of what the array stands for now
-abbrev pub RunsBefore : {R : Type 0} → Ghosts R → Array R → List Event → List Reply → Array R → Type 0
-RunsBefore {R = R} rack old events replies now = (origin : Origin R) (state : State) → StandsIn rack (WasHeld rack origin) old state →
-    (next : State) × (next.table.shape ≡ shape_of now) × Run (Known (WasHeld rack origin) rack now) state events replies next
-
 -- ---- answers
 
 -- the event was done, and its reply was written
@@ -93,13 +79,19 @@ pub record AnsweredBefore {R : Type 0} (rack : Ghosts R) (event : Event) (taken 
   pub steps : VolumeStepsTo rack old event reply now
   pub output : Told (Took (reply_line reply)) taken given
 
--- the event lists all directories, and of a listing that may answer it the first entries were written; behind them memory was wanting
+-- the text is the lines of the first entries of a listing, or of the first files that lost blocks
+abbrev pub BeginsLines : Event → Reply → List ℕ → Type 0
+BeginsLines Tree (Nodes all) text = (entries : List Listed) × (others : List Listed) × (all ≡ entries ++ others) × (text ≡ nodes_text entries)
+BeginsLines LostFiles (LostFilesReply all) text = (files : List PathOf) × (others : List PathOf) × (all ≡ files ++ others) × (text ≡ lost_text files)
+BeginsLines event reply text = ⊥
+
+-- of a listing that may answer the event the first lines were written, and behind them memory was wanting
 pub record ListedBefore {R : Type 0} (rack : Ghosts R) (event : Event) (taken given : Option (List ℕ)) (old now : Array R) : Type 0 where
-  pub is : event ≡ Tree
-  pub entries : List Listed
-  pub others : List Listed
-  pub steps : VolumeStepsTo rack old event (Nodes (entries ++ others)) now
-  pub output : Told (Took (nodes_text entries)) taken given
+  pub reply : Reply
+  pub text : List ℕ
+  pub lines : BeginsLines event reply text
+  pub steps : VolumeStepsTo rack old event reply now
+  pub output : Told (Took text) taken given
 
 -- memory was wanting for an event: before its reply, of which nothing was written, behind it, or between two lines of it
 abbrev pub WantedFor : {R : Type 0} → Ghosts R → Event → Option (List ℕ) → Option (List ℕ) → Array R → Array R → Type 0
@@ -107,13 +99,12 @@ WantedFor rack event taken given old now = (given ≡ taken) ⊎ (AnsweredBefore
 
 -- ---- a blank array
 
--- An array of this shape, over a rack that was so before: it is in the state of the blank array, and the members behind its own have the
--- bytes that they had.
+-- An array of this shape, over a rack that was so before: it is in the state of the blank array, and calls were made on its members alone.
 pub record IsBlankArray {R : Type 0} (rack : Ghosts R) (shape : Shape) (before : R) (array : Array R) : Type 0 where
   pub sound : IsSound rack array
   pub shape_is : shape_of array ≡ shape
   pub tells : StillTold (rack.bytes before) (rack.bytes (rack_of array))
-  pub others : (q : ℕ) → shape.b ≤ q / 2 → Told IsSame (rack.bytes before q) (rack.bytes (rack_of array) q)
+  pub own : CallsBelow rack shape.b before (rack_of array)
   pub same_rack : rack.name (rack_of array) ≡ rack.name before
   pub state : State
   pub blank : IsBlank shape (rack.counts before) state

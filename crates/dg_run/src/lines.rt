@@ -4,7 +4,9 @@ ghost use Rattle.dg_io.specs.Told.{Told};
 ghost use Rattle.dg_model.specs.Causes.{Rose};
 ghost use Rattle.dg_run.specs.Inputs.{ahead};
 ghost use Rattle.dg_run.specs.Endings.{GaveLines, LinesBrokeOff, LinesCut, LinesRanOut, RanOutAt, ServedLinePart};
-ghost use Rattle.dg_run.specs.Steps.{GoesOn, IsSound, shape_of};
+ghost use Rattle.dg_model.specs.Shapes.{IsShape};
+ghost use Rattle.dg_run.specs.Histories.{Continues, IsReady};
+ghost use Rattle.dg_run.specs.Steps.{shape_of};
 ghost use Rattle.dg_run.specs.Lines.{Turned, LinesEndAt};
 
 use crate::arrays::Array;
@@ -12,6 +14,8 @@ use crate::events::{Fault, Taken, take_event};
 use crate::input::Input;
 use crate::serve::serve;
 use dg_io::{Rack, Sink, Source};
+use dg_model::Shape;
+use dg_regroup::LiveRack;
 use dg_text::BadLine;
 use std::alloc::Global;
 
@@ -38,26 +42,29 @@ pub enum LinesEnd {
     Refused(u64, BadLine),
 }
 
-/// Takes a line of no more bytes than the room, does its event and writes the reply.
+/// Takes a line of no more bytes than the room, on an array of blocks of the shape's size, does its event and writes the reply.
 fn serve_next<S: Source, K: Sink, R: Rack>(
     alloc: Global,
     input: &mut Input,
     source: &mut S,
     sink: &mut K,
-    array: &mut Array<R>,
+    array: &mut Array<LiveRack<R>>,
     block: &mut [u8],
+    shape: &Shape,
     room: u64,
 ) -> Result<Turn, Fault>
-    requires sound { IsSound R.Rack array.old }
+    requires ready { IsReady R.Rack array.old }
+    requires shape { IsShape shape.now }
+    requires bytes { shape.now.l ≡ (shape_of array.old).l }
     requires size { length block.old ≡ (shape_of array.old).l }
-    ensures goes { GoesOn R.Rack array.old array.new }
-    ensures turned { IfOk result (Turned R.Rack room (ahead input.old (S.left source.old)) (ahead input.new (S.left source.new)) (K.taken sink.old)
+    ensures goes { Continues R.Rack array.old array.new }
+    ensures turned { IfOk result (Turned R.Rack shape.now room (ahead input.old (S.left source.old)) (ahead input.new (S.left source.new)) (K.taken sink.old)
         (K.taken sink.new) array.old array.new) }
     ensures broken { result ≡ Err Fault.Read → Told (GaveLines []) (ahead input.old (S.left source.old)) (S.left source.new)
         × (K.taken sink.new ≡ K.taken sink.old) × (array.new ≡ array.old) }
-    ensures part { result ≡ Err Fault.Write → ServedLinePart R.Rack (shape_of array.old) room (ahead input.old (S.left source.old)) (S.left source.new)
+    ensures part { result ≡ Err Fault.Write → ServedLinePart R.Rack shape.now room (ahead input.old (S.left source.old)) (S.left source.new)
         (K.taken sink.old) (K.taken sink.new) array.old array.new }
-    ensures wanting { result ≡ Err Fault.NoMemory → RanOutAt R.Rack (shape_of array.old) room (ahead input.old (S.left source.old)) (S.left source.new)
+    ensures wanting { result ≡ Err Fault.NoMemory → RanOutAt R.Rack shape.now room (ahead input.old (S.left source.old)) (S.left source.new)
         (K.taken sink.old) (K.taken sink.new) array.old array.new }
     ensures source_later { S.faults source.old ≤ S.faults source.new }
     ensures sink_later { K.faults sink.old ≤ K.faults sink.new }
@@ -66,7 +73,7 @@ fn serve_next<S: Source, K: Sink, R: Rack>(
     ensures read { result ≡ Err Fault.Read → Rose (S.faults source.old) (S.faults source.new) }
     ensures write { result ≡ Err Fault.Write → Rose (K.faults sink.old) (K.faults sink.new) }
 {
-    match take_event(alloc, input, source, Some(array.volume.shape()), room)? {
+    match take_event(alloc, input, source, Some(shape), room)? {
         Taken::Event(event, bytes) => {
             serve(alloc, array, sink, &event, block)?;
             Ok(Turn::Served(bytes))
@@ -83,17 +90,17 @@ pub fn serve_lines<S: Source, K: Sink, R: Rack>(
     input: &mut Input,
     source: &mut S,
     sink: &mut K,
-    array: &mut Array<R>,
+    array: &mut Array<LiveRack<R>>,
     block: &mut [u8],
     first: u64,
     from: u64,
 ) -> Result<LinesEnd, Fault>
-    requires sound { IsSound R.Rack array.old }
+    requires ready { IsReady R.Rack array.old }
     requires size { length block.old ≡ (shape_of array.old).l }
     requires first { first ≤ 2 ^ 40 }
     requires from { from ≤ 2 }
-    ensures goes { GoesOn R.Rack array.old array.new }
-    ensures end { IfOk result (LinesEndAt R.Rack first from (ahead input.old (S.left source.old)) (ahead input.new (S.left source.new))
+    ensures goes { Continues R.Rack array.old array.new }
+    ensures end { IfOk result (LinesEndAt R.Rack (shape_of array.old) first from (ahead input.old (S.left source.old)) (ahead input.new (S.left source.new))
         (K.taken sink.old) (K.taken sink.new) array.old array.new) }
     ensures broken { result ≡ Err Fault.Read → LinesBrokeOff R.Rack [] (shape_of array.old) first (ahead input.old (S.left source.old)) (S.left source.new)
         (K.taken sink.old) (K.taken sink.new) array.old array.new }
@@ -109,10 +116,20 @@ pub fn serve_lines<S: Source, K: Sink, R: Rack>(
     ensures read { result ≡ Err Fault.Read → Rose (S.faults source.old) (S.faults source.new) }
     ensures write { result ≡ Err Fault.Write → Rose (K.faults sink.old) (K.faults sink.new) }
 {
+    let shape = *array.volume.shape();
     let mut passed = first;
     let mut number = from;
     while passed <= BUDGET {
-        match serve_next(alloc, input, source, sink, array, block, BUDGET - passed)? {
+        match serve_next(
+            alloc,
+            input,
+            source,
+            sink,
+            array,
+            block,
+            &shape,
+            BUDGET - passed,
+        )? {
             Turn::Served(bytes) => {
                 passed += bytes;
                 number += 1;

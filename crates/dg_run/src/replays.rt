@@ -12,7 +12,8 @@ ghost use Rattle.dg_run.specs.Ends.{EndsReplay};
 ghost use Rattle.dg_run.specs.Events.{Begins};
 ghost use Rattle.dg_run.specs.Inputs.{ahead};
 ghost use Rattle.dg_run.specs.Replays.{BrokeOff, IsCut, RanOut, Replayed, Stopped};
-ghost use Rattle.dg_run.specs.Steps.{GoesOn, IsSound, shape_of};
+ghost use Rattle.dg_run.specs.Histories.{Continues, IsReady};
+ghost use Rattle.dg_run.specs.Steps.{shape_of};
 ghost use Rattle.dg_text.specs.Lines.{line_of};
 ghost use Rattle.dg_text.specs.Replies.{reply_line, refusal};
 
@@ -24,6 +25,7 @@ use crate::serve::send;
 use crate::top::Status;
 use dg_io::{Rack, Sink, Source};
 use dg_model::{Event, NoMemory, Reply, Shape};
+use dg_regroup::LiveRack;
 use dg_text::{BadLine, write_refusal};
 use std::alloc::Global;
 
@@ -74,23 +76,23 @@ fn serve_array<S: Source, K: Sink, R: Rack>(
     input: &mut Input,
     source: &mut S,
     sink: &mut K,
-    array: &mut Array<R>,
+    array: &mut Array<LiveRack<R>>,
     first: u64,
 ) -> Status
-    requires sound { IsSound R.Rack array.old }
+    requires ready { IsReady R.Rack array.old }
     requires first { first ≤ 2 ^ 40 }
-    ensures goes { GoesOn R.Rack array.old array.new }
-    ensures done { result ≡ Status.Done → AllAnswered R.Rack first (ahead input.old (S.left source.old)) (ahead input.new (S.left source.new))
+    ensures goes { Continues R.Rack array.old array.new }
+    ensures done { result ≡ Status.Done → AllAnswered R.Rack (shape_of array.old) first (ahead input.old (S.left source.old)) (ahead input.new (S.left source.new))
         (K.taken sink.old) (K.taken sink.new) array.old array.new }
     ensures bad_line { result ≡ Status.BadLine
-        → AnsweredTo R.Rack first (ahead input.old (S.left source.old)) (ahead input.new (S.left source.new)) (K.taken sink.old)
+        → AnsweredTo R.Rack (shape_of array.old) first (ahead input.old (S.left source.old)) (ahead input.new (S.left source.new)) (K.taken sink.old)
         (K.taken sink.new) array.old array.new }
     ensures broken { result ≡ Status.ReadFault
         → LinesBrokeOff R.Rack (reply_line Reply.Done) (shape_of array.old) first (ahead input.old (S.left source.old))
         (S.left source.new) (K.taken sink.old) (K.taken sink.new) array.old array.new }
-    ensures part { result ≡ Status.WriteFault → ArrayCut R.Rack first (ahead input.old (S.left source.old)) (ahead input.new (S.left source.new))
+    ensures part { result ≡ Status.WriteFault → ArrayCut R.Rack (shape_of array.old) first (ahead input.old (S.left source.old)) (ahead input.new (S.left source.new))
         (S.left source.new) (K.taken sink.old) (K.taken sink.new) array.old array.new }
-    ensures wanting { result ≡ Status.NoMemory → ArrayRanOut R.Rack first (ahead input.old (S.left source.old)) (S.left source.new)
+    ensures wanting { result ≡ Status.NoMemory → ArrayRanOut R.Rack (shape_of array.old) first (ahead input.old (S.left source.old)) (S.left source.new)
         (K.taken sink.old) (K.taken sink.new) array.old array.new }
     ensures read { result ≡ Status.ReadFault → Rose (S.faults source.old) (S.faults source.new) }
     ensures write { result ≡ Status.WriteFault → Rose (K.faults sink.old) (K.faults sink.new) }
@@ -155,11 +157,13 @@ fn replay_array<S: Source, K: Sink, R: Rack + Drop>(
     ensures err_sink { OnErr result (K.faults sink.new ≡ K.faults sink.old) }
     ensures never { IfOk result (λ end. IsOfReplay end.status) }
 {
-    let mut array = Array::new(alloc, rack, shape)?;
+    let live = LiveRack::of_all(alloc, rack)?;
+    let mut array = Array::new(alloc, live, shape)?;
     let status = serve_array(alloc, input, source, sink, &mut array, first);
     let Array { volume, .. } = array;
+    let left = volume.into_rack();
     Ok(Ended {
-        rack: volume.into_rack(),
+        rack: left.into_rack(),
         status,
     })
 }

@@ -2,6 +2,7 @@
 ghost use Rattle.std.specs.Prelude.{◌≡◌};
 ghost use Rattle.dg_volume.specs.Audits.{audit_reply};
 ghost use Rattle.dg_volume.specs.Copies.{any_diffuse_reply};
+ghost use Rattle.dg_run.specs.Regroups.{regroup_reply};
 ghost use Rattle.dg_volume.specs.Refills.{rebuild_reply, replace_reply};
 ghost use Rattle.dg_volume.specs.Replies.{any_home_reply, fail_reply, fault_reply, home_reply as settled_home_reply, who_reply};
 ghost use Rattle.dg_volume.specs.Saves.{save_reply};
@@ -11,7 +12,8 @@ ghost use Rattle.dg_volume.specs.Writes.{write_reply};
 use dg_model::Reply;
 use dg_volume::{
     AnyDiffuse, AnyHome, AuditAnswer, DiffuseAnswer, FailAnswer, HomeAnswer, LookFault,
-    RebuildAnswer, ReplaceAnswer, SaveAnswer, TendRun, Unsettled, WhoAnswer, WriteAnswer,
+    RebuildAnswer, RegroupAnswer, ReplaceAnswer, SaveAnswer, TendRun, Unsettled, WhoAnswer,
+    WriteAnswer,
 };
 use ufs_model::PathRefusal;
 
@@ -115,6 +117,17 @@ pub fn save_reply(answer: SaveAnswer) -> Reply
     match answer {
         SaveAnswer::Saved(sequence) => Reply::Saved(sequence),
         SaveAnswer::Lost(s) => Reply::Lost(s as u32),
+    }
+}
+
+/// Boundaries were taken out of use, or why not.
+pub fn regroup_reply(answer: RegroupAnswer) -> Reply
+    ensures { result ≡ regroup_reply answer }
+{
+    match answer {
+        RegroupAnswer::Whole => Reply::Whole,
+        RegroupAnswer::TooFew => Reply::TooFew,
+        RegroupAnswer::Regrouped { boundaries, blocks } => Reply::Regrouped(boundaries, blocks),
     }
 }
 

@@ -8,7 +8,8 @@ ghost use Rattle.dg_run.specs.Endings.{LinesBrokeOff, LinesCut, LinesRanOut};
 ghost use Rattle.dg_run.specs.Inputs.{ahead};
 ghost use Rattle.dg_run.specs.Lines.{AllServed, RefusedBehind, RefusedInPart};
 ghost use Rattle.dg_run.specs.Resumes.{EndsResume};
-ghost use Rattle.dg_run.specs.Steps.{GoesOn, IsSound, shape_of};
+ghost use Rattle.dg_run.specs.Histories.{Continues, IsReady};
+ghost use Rattle.dg_run.specs.Steps.{shape_of};
 ghost use Rattle.dg_saved.specs.Texts.{nostate_text, unclean_text};
 
 use crate::arrays::Array;
@@ -18,6 +19,7 @@ use crate::replays::{Ended, refuse, status_of};
 use crate::top::Status;
 use dg_io::{Rack, Sink, Source, write_all};
 use dg_model::NoMemory;
+use dg_regroup::LiveRack;
 use dg_volume::{OpenAnswer, open};
 use std::alloc::Global;
 
@@ -55,20 +57,20 @@ fn resume_array<S: Source, K: Sink, R: Rack>(
     input: &mut Input,
     source: &mut S,
     sink: &mut K,
-    array: &mut Array<R>,
+    array: &mut Array<LiveRack<R>>,
 ) -> Status
-    requires sound { IsSound R.Rack array.old }
-    ensures goes { GoesOn R.Rack array.old array.new }
+    requires ready { IsReady R.Rack array.old }
+    ensures goes { Continues R.Rack array.old array.new }
     ensures done { result ≡ Status.Done → AllServed R.Rack (shape_of array.old) 0 (ahead input.old (S.left source.old))
         (ahead input.new (S.left source.new)) (K.taken sink.old) (K.taken sink.new) array.old array.new }
-    ensures bad_line { result ≡ Status.BadLine → RefusedBehind R.Rack 0 1 (ahead input.old (S.left source.old))
+    ensures bad_line { result ≡ Status.BadLine → RefusedBehind R.Rack (shape_of array.old) 0 1 (ahead input.old (S.left source.old))
         (ahead input.new (S.left source.new)) (K.taken sink.old) (K.taken sink.new) array.old array.new }
     ensures broken { result ≡ Status.ReadFault → LinesBrokeOff R.Rack [] (shape_of array.old) 0 (ahead input.old (S.left source.old))
         (S.left source.new) (K.taken sink.old) (K.taken sink.new) array.old array.new }
     ensures part { result ≡ Status.WriteFault
         → LinesCut R.Rack [] (shape_of array.old) 0 (ahead input.old (S.left source.old)) (S.left source.new)
         (K.taken sink.old) (K.taken sink.new) array.old array.new
-        ⊎ RefusedInPart R.Rack 0 1 (ahead input.old (S.left source.old)) (ahead input.new (S.left source.new))
+        ⊎ RefusedInPart R.Rack (shape_of array.old) 0 1 (ahead input.old (S.left source.old)) (ahead input.new (S.left source.new))
         (K.taken sink.old) (K.taken sink.new) array.old array.new }
     ensures wanting { result ≡ Status.NoMemory
         → (Told AreAny (ahead input.old (S.left source.old)) (S.left source.new) × (K.taken sink.new ≡ K.taken sink.old))
@@ -107,22 +109,24 @@ fn resume<S: Source, K: Sink, R: Rack + Drop>(
     ensures sink_kept { IfOk result (λ end. (end.status ≡ Status.WriteFault → ⊥) → K.faults sink.new ≡ K.faults sink.old) }
 {
     let mut input = Input::new(alloc)?;
-    match open(alloc, rack)? {
+    let live = LiveRack::of_all(alloc, rack)?;
+    match open(alloc, live)? {
         OpenAnswer::Opened(volume, hot) => {
             let mut array = Array { volume, hot };
             let status = resume_array(alloc, &mut input, source, sink, &mut array);
             let Array { volume, .. } = array;
+            let left = volume.into_rack();
             Ok(Ended {
-                rack: volume.into_rack(),
+                rack: left.into_rack(),
                 status,
             })
         }
-        OpenAnswer::NoState(rack) => Ok(Ended {
-            rack,
+        OpenAnswer::NoState(live) => Ok(Ended {
+            rack: live.into_rack(),
             status: tell_no_state(sink),
         }),
-        OpenAnswer::Unclean(rack) => Ok(Ended {
-            rack,
+        OpenAnswer::Unclean(live) => Ok(Ended {
+            rack: live.into_rack(),
             status: tell_unclean(sink),
         }),
     }

@@ -4,15 +4,18 @@ ghost use Rattle.dg_model.specs.Causes.{Rose};
 ghost use Rattle.dg_text.specs.Lines.{IsInPlace};
 ghost use Rattle.dg_text.specs.Replies.{reply_line};
 ghost use Rattle.dg_io.specs.Told.{Told, Took, TookPart};
-ghost use Rattle.dg_run.specs.Plain.{is_plain};
-ghost use Rattle.dg_run.specs.Steps.{Answered, AnsweredPart, GoesOn, IsSound, StepsTo, WantedFor, shape_of};
+ghost use Rattle.dg_run.specs.Histories.{Continues, EventAnswered, EventCut, EventWanted, IsReady};
+ghost use Rattle.dg_run.specs.Plain.{IsOfPairs, is_plain};
+ghost use Rattle.dg_run.specs.Steps.{Answered, AnsweredPart, GoesOn, IsSound, StepsTo, shape_of};
 
 use crate::arrays::Array;
 use crate::blocks::{fill_block, trimmed};
 use crate::cats::serve_cat;
 use crate::events::Fault;
 use crate::listings::serve_ls;
+use crate::lost_files::serve_lost;
 use crate::pendings::serve_pending;
+use crate::regroups::serve_regroup;
 use crate::replies::{
     audit_reply, diffuse_reply, fail_reply, home_reply, rebuild_reply, replace_reply, save_reply,
     settle_reply, tend_reply, who_reply, write_reply,
@@ -20,6 +23,7 @@ use crate::replies::{
 use crate::trees::serve_tree;
 use dg_io::{Rack, Sink};
 use dg_model::{Event, NoMemory, Reply};
+use dg_regroup::LiveRack;
 use dg_text::{write_data, write_reply as write_line};
 use dg_volume::ReadAnswer;
 use std::alloc::Global;
@@ -79,6 +83,19 @@ fn serve_read<R: Rack, K: Sink>(
     }
 }
 
+/// Saves the state, where all boundaries are in use.
+fn save<R: Rack>(alloc: Global, array: &mut Array<R>) -> Result<Reply, NoMemory>
+    requires sound { IsSound R.Rack array.old }
+    ensures goes { GoesOn R.Rack array.old array.new }
+    ensures steps { IfOk result (λ reply. StepsTo R.Rack array.old Event.Save reply array.new) }
+    ensures of_pairs { IfOk result (λ reply. IsOfPairs array.old Event.Save reply) }
+{
+    if array.volume.is_reduced() {
+        return Ok(Reply::NotSaved);
+    }
+    Ok(save_reply(array.volume.save(alloc, &array.hot)?))
+}
+
 /// Does an event that is answered by one reply, known whole before it is written, which tells no bytes of a block; and answers that.
 fn reply_to<R: Rack>(
     alloc: Global,
@@ -92,6 +109,7 @@ fn reply_to<R: Rack>(
     requires plain { is_plain event.now ≡ true }
     ensures goes { GoesOn R.Rack array.old array.new }
     ensures steps { IfOk result (λ reply. StepsTo R.Rack array.old event.now reply array.new) }
+    ensures of_pairs { IfOk result (λ reply. IsOfPairs array.old event.now reply) }
 {
     match event {
         Event::Write(b, bytes) => {
@@ -106,8 +124,9 @@ fn reply_to<R: Rack>(
         Event::Diffuse => Ok(diffuse_reply(array.volume.diffuse(alloc, &array.hot)?)),
         Event::Who(b) => Ok(who_reply(array.volume.who(*b))),
         Event::Home(path) => Ok(home_reply(array.volume.home(path.as_slice()))),
-        Event::Save => Ok(save_reply(array.volume.save(alloc, &array.hot)?)),
+        Event::Save => save(alloc, array),
         Event::Audit => Ok(audit_reply(array.volume.audit(alloc)?)),
+        Event::DropDisk(_, _) | Event::MendDisk(_, _) => Ok(Reply::NotParity),
         Event::Array(_)
         | Event::Safe(_)
         | Event::Parity(_, _)
@@ -117,27 +136,25 @@ fn reply_to<R: Rack>(
         | Event::Ls(_)
         | Event::Tree
         | Event::Regroup
-        | Event::LostFiles
-        | Event::DropDisk(_, _)
-        | Event::MendDisk(_, _) => unreachable!(),
+        | Event::LostFiles => unreachable!(),
     }
 }
 
 /// Does such an event, and writes its reply.
 fn serve_plain<R: Rack, K: Sink>(
     alloc: Global,
-    array: &mut Array<R>,
+    array: &mut Array<LiveRack<R>>,
     sink: &mut K,
     event: &Event,
     block: &mut [u8],
 ) -> Result<(), Fault>
-    requires sound { IsSound R.Rack array.old }
+    requires ready { IsReady R.Rack array.old }
     requires size { length block.old ≡ (shape_of array.old).l }
     requires in_place { IsInPlace (Some (shape_of array.old)) event.now }
     requires plain { is_plain event.now ≡ true }
-    ensures goes { GoesOn R.Rack array.old array.new }
-    ensures answered { OnOk result (Answered R.Rack event.now (K.taken sink.old) (K.taken sink.new) array.old array.new) }
-    ensures part { result ≡ Err Fault.Write → AnsweredPart R.Rack event.now (K.taken sink.old) (K.taken sink.new) array.old array.new }
+    ensures goes { Continues R.Rack array.old array.new }
+    ensures answered { OnOk result (EventAnswered R.Rack event.now (K.taken sink.old) (K.taken sink.new) array.old array.new) }
+    ensures part { result ≡ Err Fault.Write → EventCut R.Rack event.now (K.taken sink.old) (K.taken sink.new) array.old array.new }
     ensures wanting { result ≡ Err Fault.NoMemory → K.taken sink.new ≡ K.taken sink.old }
     ensures later { K.faults sink.old ≤ K.faults sink.new }
     ensures kept { (result ≡ Err Fault.Write → ⊥) → K.faults sink.new ≡ K.faults sink.old }
@@ -153,18 +170,18 @@ fn serve_plain<R: Rack, K: Sink>(
 /// Does an event that is in its place after the array, and writes its reply.
 pub fn serve<R: Rack, K: Sink>(
     alloc: Global,
-    array: &mut Array<R>,
+    array: &mut Array<LiveRack<R>>,
     sink: &mut K,
     event: &Event,
     block: &mut [u8],
 ) -> Result<(), Fault>
-    requires sound { IsSound R.Rack array.old }
+    requires ready { IsReady R.Rack array.old }
     requires size { length block.old ≡ (shape_of array.old).l }
     requires in_place { IsInPlace (Some (shape_of array.old)) event.now }
-    ensures goes { GoesOn R.Rack array.old array.new }
-    ensures answered { OnOk result (Answered R.Rack event.now (K.taken sink.old) (K.taken sink.new) array.old array.new) }
-    ensures part { result ≡ Err Fault.Write → AnsweredPart R.Rack event.now (K.taken sink.old) (K.taken sink.new) array.old array.new }
-    ensures wanting { result ≡ Err Fault.NoMemory → WantedFor R.Rack event.now (K.taken sink.old) (K.taken sink.new) array.old array.new }
+    ensures goes { Continues R.Rack array.old array.new }
+    ensures answered { OnOk result (EventAnswered R.Rack event.now (K.taken sink.old) (K.taken sink.new) array.old array.new) }
+    ensures part { result ≡ Err Fault.Write → EventCut R.Rack event.now (K.taken sink.old) (K.taken sink.new) array.old array.new }
+    ensures wanting { result ≡ Err Fault.NoMemory → EventWanted R.Rack event.now (K.taken sink.old) (K.taken sink.new) array.old array.new }
     ensures later { K.faults sink.old ≤ K.faults sink.new }
     ensures kept { (result ≡ Err Fault.Write → ⊥) → K.faults sink.new ≡ K.faults sink.old }
     ensures read { result ≡ Err Fault.Read → ⊥ }
@@ -176,6 +193,8 @@ pub fn serve<R: Rack, K: Sink>(
         Event::Cat(path) => serve_cat(array, sink, path),
         Event::Ls(path) => serve_ls(array, sink, path),
         Event::Tree => serve_tree(alloc, array, sink),
+        Event::Regroup => serve_regroup(alloc, array, sink),
+        Event::LostFiles => serve_lost(alloc, array, sink),
         plain => serve_plain(alloc, array, sink, plain, block),
     }
 }

@@ -10,6 +10,8 @@ mod left_tests;
 #[cfg(test)]
 mod list_tests;
 #[cfg(test)]
+mod regroup_tests;
+#[cfg(test)]
 mod runs;
 #[cfg(test)]
 mod tests;

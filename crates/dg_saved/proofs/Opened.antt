@@ -74,6 +74,7 @@ module _ {R : Type 0} (rack : Ghosts R) (before : R) (volume : Volume AnyPhase R
     well = opened.well;
     shape = refl;
     boundaries = refl;
+    live = refl;
     line = refl;
     rise = record { faults = λ q. omega arith; calls = omega arith; writes = omega arith };
     tells = λ q told. told;

@@ -8,13 +8,13 @@ use Rattle.std.proofs.lemmas.List.Elements.{All-nil, All-cons, All-head, All-tai
 use Rattle.dg_model.specs.Shapes.{IsShape}
 use Rattle.dg_model.specs.declared.shapes.Shape.{Shape}
 use Rattle.dg_model.specs.declared.events.Event.{Event}
-use Rattle.dg_model.specs.declared.events.Event.TheVariants.{Array, Write, Read, Fail, Replace, Rebuild, Settle, Tend, Diffuse, Who, Pending, Cat, Ls, Tree, Home, Save, Audit}
+use Rattle.dg_model.specs.declared.events.Event.TheVariants.{Array, Write, Read, Fail, Replace, Rebuild, Settle, Tend, Diffuse, Who, Pending, Cat, Ls, Tree, Home, Save, Audit, Regroup, LostFiles, DropDisk, MendDisk}
 use Rattle.ufs_model.specs.Paths.{is_path}
 use Rattle.dg_text.specs.Lines.{AreBytes, block_bytes, hex_word, path_word, shape_words, spelling, IsInPlace}
 use Rattle.dg_text.specs.Refusals.{Begins, IsHexWord, IsNumberWord, IsOutOfOrder, IsPathWord, count_of, numbers_of, tail_of, words, word_of}
 use Rattle.dg_text.specs.Texts.{IsTextOf, event_kind}
 use Rattle.dg_text.specs.declared.kinds.EventKind.{EventKind}
-use Rattle.dg_text.specs.declared.kinds.EventKind.TheVariants.{Array as KindArray, Write as KindWrite, Read as KindRead, Fail as KindFail, Replace as KindReplace, Rebuild as KindRebuild, Settle as KindSettle, Tend as KindTend, Diffuse as KindDiffuse, Who as KindWho, Pending as KindPending, Cat as KindCat, Ls as KindLs, Tree as KindTree, Home as KindHome, Save as KindSave, Audit as KindAudit}
+use Rattle.dg_text.specs.declared.kinds.EventKind.TheVariants.{Array as KindArray, Write as KindWrite, Read as KindRead, Fail as KindFail, Replace as KindReplace, Rebuild as KindRebuild, Settle as KindSettle, Tend as KindTend, Diffuse as KindDiffuse, Who as KindWho, Pending as KindPending, Cat as KindCat, Ls as KindLs, Tree as KindTree, Home as KindHome, Save as KindSave, Audit as KindAudit, Regroup as KindRegroup, LostFiles as KindLostFiles, Drop as KindDrop, Mend as KindMend}
 use Rattle.dg_text.specs.declared.kinds.Tail.TheVariants.{Nothing, Bytes, Path as PathTail}
 use Rattle.dg_text.proofs.Cuts.{Lacks, Lacks-from_above}
 use Rattle.dg_text.proofs.HexWords.{hex_word_nonempty, hex_word_high}
@@ -43,6 +43,10 @@ later_of Tree = []
 later_of (Home path) = path_word path ∷ []
 later_of Save = []
 later_of Audit = []
+later_of Regroup = []
+later_of LostFiles = []
+later_of (DropDisk s j) = decimal s ∷ decimal j ∷ []
+later_of (MendDisk s j) = decimal s ∷ decimal j ∷ []
 later_of event = []
 
 -- ---- the words of an event in its place
@@ -98,6 +102,10 @@ split_event (Some shape) Pending h = words_whole (word_of KindPending) (word_lac
 split_event (Some shape) Tree h = words_whole (word_of KindTree) (word_lacks KindTree)
 split_event (Some shape) Save h = words_whole (word_of KindSave) (word_lacks KindSave)
 split_event (Some shape) Audit h = words_whole (word_of KindAudit) (word_lacks KindAudit)
+split_event (Some shape) Regroup h = words_whole (word_of KindRegroup) (word_lacks KindRegroup)
+split_event (Some shape) LostFiles h = words_whole (word_of KindLostFiles) (word_lacks KindLostFiles)
+split_event (Some shape) (DropDisk s j) h = split_two KindDrop (decimal s) (decimal j) (number_lacks s h.0) (number_lacks j h.1)
+split_event (Some shape) (MendDisk s j) h = split_two KindMend (decimal s) (decimal j) (number_lacks s h.0) (number_lacks j h.1)
 split_event shape event h = absurd h
 
 -- ---- what is right about them
@@ -245,6 +253,14 @@ right_event (Some shape) Pending h = right_numbers shape KindPending [] (λ is. 
 right_event (Some shape) Tree h = right_numbers shape KindTree [] (λ is. cc is) refl refl no_words (All-nil IsNumberWord)
 right_event (Some shape) Save h = right_numbers shape KindSave [] (λ is. cc is) refl refl no_words (All-nil IsNumberWord)
 right_event (Some shape) Audit h = right_numbers shape KindAudit [] (λ is. cc is) refl refl no_words (All-nil IsNumberWord)
+right_event (Some shape) Regroup h = right_numbers shape KindRegroup [] (λ is. cc is) refl refl no_words (All-nil IsNumberWord)
+right_event (Some shape) LostFiles h = right_numbers shape KindLostFiles [] (λ is. cc is) refl refl no_words (All-nil IsNumberWord)
+right_event (Some shape) (DropDisk s j) h =
+    right_numbers shape KindDrop (decimal s ∷ decimal j ∷ []) (λ is. cc is) refl refl (some_two (decimal s) (decimal j) (number_some s h.0) (number_some j h.1))
+    (numbers_two (decimal s) (decimal j) (small_word s h.0) (small_word j h.1))
+right_event (Some shape) (MendDisk s j) h =
+    right_numbers shape KindMend (decimal s ∷ decimal j ∷ []) (λ is. cc is) refl refl (some_two (decimal s) (decimal j) (number_some s h.0) (number_some j h.1))
+    (numbers_two (decimal s) (decimal j) (small_word s h.0) (small_word j h.1))
 right_event shape event h = absurd h
 
 -- ---- the event of words that are right
@@ -368,6 +384,10 @@ spelled None KindTree later right = absurd (right.order (λ is. cc is))
 spelled None KindHome later right = absurd (right.order (λ is. cc is))
 spelled None KindSave later right = absurd (right.order (λ is. cc is))
 spelled None KindAudit later right = absurd (right.order (λ is. cc is))
+spelled None KindRegroup later right = absurd (right.order (λ is. cc is))
+spelled None KindLostFiles later right = absurd (right.order (λ is. cc is))
+spelled None KindDrop later right = absurd (right.order (λ is. cc is))
+spelled None KindMend later right = absurd (right.order (λ is. cc is))
 spelled (Some shape) KindArray later right = absurd (right.order refl)
 spelled (Some shape) KindWrite later right =
     let w = two_of later right.count in
@@ -416,6 +436,16 @@ spelled (Some shape) KindPending later right = (Pending, tt, refl, sym (none_of 
 spelled (Some shape) KindTree later right = (Tree, tt, refl, sym (none_of later right.count))
 spelled (Some shape) KindSave later right = (Save, tt, refl, sym (none_of later right.count))
 spelled (Some shape) KindAudit later right = (Audit, tt, refl, sym (none_of later right.count))
+spelled (Some shape) KindRegroup later right = (Regroup, tt, refl, sym (none_of later right.count))
+spelled (Some shape) KindLostFiles later right = (LostFiles, tt, refl, sym (none_of later right.count))
+spelled (Some shape) KindDrop later right =
+    let w = two_of later right.count in
+    let n = numbers_in w.0 w.1 later w.2 right.numbers in
+    (DropDisk n.0.0 n.1.0, (n.0.1, n.1.1), refl, words_are (decimal n.0.0) (decimal n.1.0) w.0 w.1 later w.2 n.0.2 n.1.2)
+spelled (Some shape) KindMend later right =
+    let w = two_of later right.count in
+    let n = numbers_in w.0 w.1 later w.2 right.numbers in
+    (MendDisk n.0.0 n.1.0, (n.0.1, n.1.1), refl, words_are (decimal n.0.0) (decimal n.1.0) w.0 w.1 later w.2 n.0.2 n.1.2)
 
 -- a line whose words are right spells an event
 pub line_spelled : (shape : Option Shape) (line : List ℕ) (b : Begins line) → IsRight shape b.kind b.later → (event : Event) × IsInPlace shape event × (line ≡ spelling event)
@@ -458,6 +488,10 @@ text_of shape Pending h some = absurd (omega arith)
 text_of shape Tree h some = absurd (omega arith)
 text_of shape Save h some = absurd (omega arith)
 text_of shape Audit h some = absurd (omega arith)
+text_of shape Regroup h some = absurd (omega arith)
+text_of shape LostFiles h some = absurd (omega arith)
+text_of shape (DropDisk s j) h some = (s, j, h.0, h.1, refl)
+text_of shape (MendDisk s j) h some = (s, j, h.0, h.1, refl)
 text_of shape event h some = absurd h
 
 pub text_is : (shape : Shape) (line : List ℕ) (event : Event) (kind : EventKind) (text : List ℕ) → IsInPlace (Some shape) event → line ≡ spelling event

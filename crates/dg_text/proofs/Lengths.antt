@@ -8,7 +8,7 @@ use Rattle.hex.specs.Hex.{lower_digits}
 use Rattle.hex.proofs.HexLemmas.{length-encode_with}
 use Rattle.dg_model.specs.declared.shapes.Shape.{Shape}
 use Rattle.dg_model.specs.declared.events.Event.{Event}
-use Rattle.dg_model.specs.declared.events.Event.TheVariants.{Array, Write, Read, Fail, Replace, Rebuild, Settle, Tend, Diffuse, Who, Pending, Cat, Ls, Tree, Home, Save, Audit}
+use Rattle.dg_model.specs.declared.events.Event.TheVariants.{Array, Write, Read, Fail, Replace, Rebuild, Settle, Tend, Diffuse, Who, Pending, Cat, Ls, Tree, Home, Save, Audit, Regroup, LostFiles, DropDisk, MendDisk}
 use Rattle.dg_text.specs.Lines.{hex_word, line_of, IsInPlace, longest}
 use Rattle.dg_text.proofs.PathWords.{length-path_word}
 use Rattle.ufs_model.specs.Paths.{is_path, is_path_name, names_after}
@@ -88,4 +88,14 @@ line_fits (Some shape) Pending h = omega arith
 line_fits (Some shape) Tree h = omega arith
 line_fits (Some shape) Save h = omega arith
 line_fits (Some shape) Audit h = omega arith
+line_fits (Some shape) Regroup h = omega arith
+line_fits (Some shape) LostFiles h = omega arith
+line_fits (Some shape) (DropDisk s j) h =
+    let boundary = short s h.0 in
+    let disk = short j h.1 in
+    simp length-append (omega arith)
+line_fits (Some shape) (MendDisk s j) h =
+    let boundary = short s h.0 in
+    let disk = short j h.1 in
+    simp length-append (omega arith)
 line_fits shape event h = absurd h

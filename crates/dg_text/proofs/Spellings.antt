@@ -8,12 +8,12 @@ use Rattle.hex.specs.Hex.{encode_lower}
 use Rattle.dg_model.specs.Shapes.{IsShape}
 use Rattle.dg_model.specs.declared.shapes.Shape.{Shape}
 use Rattle.dg_model.specs.declared.events.Event.{Event}
-use Rattle.dg_model.specs.declared.events.Event.TheVariants.{Array, Write, Read, Fail, Replace, Rebuild, Settle, Tend, Diffuse, Who, Pending, Cat, Ls, Tree, Home, Save, Audit}
+use Rattle.dg_model.specs.declared.events.Event.TheVariants.{Array, Write, Read, Fail, Replace, Rebuild, Settle, Tend, Diffuse, Who, Pending, Cat, Ls, Tree, Home, Save, Audit, Regroup, LostFiles, DropDisk, MendDisk}
 use Rattle.dg_text.specs.Lines.{AreBytes, AreInPlace, hex_word, path_word, spelled_byte, is_plain, spelling, line_of, input_of, IsInPlace}
 use Rattle.dg_text.specs.Refusals.{numbers_of, tail_of, word_of, words}
 use Rattle.dg_text.specs.Texts.{event_kind, is_spelled}
 use Rattle.dg_text.specs.declared.kinds.EventKind.{EventKind}
-use Rattle.dg_text.specs.declared.kinds.EventKind.TheVariants.{Array as KindArray, Write as KindWrite, Read as KindRead, Fail as KindFail, Replace as KindReplace, Rebuild as KindRebuild, Settle as KindSettle, Tend as KindTend, Diffuse as KindDiffuse, Who as KindWho, Pending as KindPending, Cat as KindCat, Ls as KindLs, Tree as KindTree, Home as KindHome, Save as KindSave, Audit as KindAudit}
+use Rattle.dg_text.specs.declared.kinds.EventKind.TheVariants.{Array as KindArray, Write as KindWrite, Read as KindRead, Fail as KindFail, Replace as KindReplace, Rebuild as KindRebuild, Settle as KindSettle, Tend as KindTend, Diffuse as KindDiffuse, Who as KindWho, Pending as KindPending, Cat as KindCat, Ls as KindLs, Tree as KindTree, Home as KindHome, Save as KindSave, Audit as KindAudit, Regroup as KindRegroup, LostFiles as KindLostFiles, Drop as KindDrop, Mend as KindMend}
 use Rattle.dg_text.specs.declared.kinds.Tail.{Tail}
 use Rattle.dg_text.specs.declared.kinds.Tail.TheVariants.{Nothing, Bytes, Path as PathTail}
 use Rattle.dg_text.proofs.Cuts.{first_cut}
@@ -81,6 +81,10 @@ numbers_in Tree = []
 numbers_in (Home path) = []
 numbers_in Save = []
 numbers_in Audit = []
+numbers_in Regroup = []
+numbers_in LostFiles = []
+numbers_in (DropDisk s j) = s ∷ j ∷ []
+numbers_in (MendDisk s j) = s ∷ j ∷ []
 numbers_in event = []
 
 -- its bytes
@@ -102,6 +106,10 @@ bytes_in Tree = []
 bytes_in (Home path) = path
 bytes_in Save = []
 bytes_in Audit = []
+bytes_in Regroup = []
+bytes_in LostFiles = []
+bytes_in (DropDisk s j) = []
+bytes_in (MendDisk s j) = []
 bytes_in event = []
 
 -- the event of some numbers and bytes
@@ -123,6 +131,10 @@ made_of KindTree ns bs = Tree
 made_of KindHome ns bs = Home bs
 made_of KindSave ns bs = Save
 made_of KindAudit ns bs = Audit
+made_of KindRegroup ns bs = Regroup
+made_of KindLostFiles ns bs = LostFiles
+made_of KindDrop ns bs = DropDisk (get_or ns 0 0) (get_or ns 1 0)
+made_of KindMend ns bs = MendDisk (get_or ns 0 0) (get_or ns 1 0)
 
 made_back : (event : Event) → is_spelled event ≡ true → made_of (event_kind event) (numbers_in event) (bytes_in event) ≡ event
 unfolding numbers_in bytes_in made_of
@@ -143,6 +155,10 @@ made_back Tree is = refl
 made_back (Home path) is = refl
 made_back Save is = refl
 made_back Audit is = refl
+made_back Regroup is = refl
+made_back LostFiles is = refl
+made_back (DropDisk s j) is = refl
+made_back (MendDisk s j) is = refl
 made_back event is = absurd (cc is)
 
 -- the word behind the numbers, if there is one
@@ -170,6 +186,10 @@ later_is Tree = refl
 later_is (Home path) = refl
 later_is Save = refl
 later_is Audit = refl
+later_is Regroup = refl
+later_is LostFiles = refl
+later_is (DropDisk s j) = refl
+later_is (MendDisk s j) = refl
 later_is event = refl
 
 numbers_count : (event : Event) → length (numbers_in event) ≡ numbers_of (event_kind event)
@@ -191,6 +211,10 @@ numbers_count Tree = refl
 numbers_count (Home path) = refl
 numbers_count Save = refl
 numbers_count Audit = refl
+numbers_count Regroup = refl
+numbers_count LostFiles = refl
+numbers_count (DropDisk s j) = refl
+numbers_count (MendDisk s j) = refl
 numbers_count event = refl
 
 abbrev IsSmall : ℕ → Type 0
@@ -227,6 +251,10 @@ numbers_small (Some shape) Pending h = All-nil IsSmall
 numbers_small (Some shape) Tree h = All-nil IsSmall
 numbers_small (Some shape) Save h = All-nil IsSmall
 numbers_small (Some shape) Audit h = All-nil IsSmall
+numbers_small (Some shape) Regroup h = All-nil IsSmall
+numbers_small (Some shape) LostFiles h = All-nil IsSmall
+numbers_small (Some shape) (DropDisk s j) h = two_small s j h.0 h.1
+numbers_small (Some shape) (MendDisk s j) h = two_small s j h.0 h.1
 numbers_small shape event h = absurd h
 
 -- bytes that may stand there
@@ -251,6 +279,10 @@ tail_right (Some shape) Pending h = refl
 tail_right (Some shape) Tree h = refl
 tail_right (Some shape) Save h = refl
 tail_right (Some shape) Audit h = refl
+tail_right (Some shape) Regroup h = refl
+tail_right (Some shape) LostFiles h = refl
+tail_right (Some shape) (DropDisk s j) h = refl
+tail_right (Some shape) (MendDisk s j) h = refl
 tail_right (Some shape) (Cat path) h = h.1
 tail_right (Some shape) (Ls path) h = h.1
 tail_right (Some shape) (Home path) h = h.1
@@ -294,6 +326,10 @@ in_place_spelled (Some shape) Tree h = refl
 in_place_spelled (Some shape) (Home path) h = refl
 in_place_spelled (Some shape) Save h = refl
 in_place_spelled (Some shape) Audit h = refl
+in_place_spelled (Some shape) Regroup h = refl
+in_place_spelled (Some shape) LostFiles h = refl
+in_place_spelled (Some shape) (DropDisk s j) h = refl
+in_place_spelled (Some shape) (MendDisk s j) h = refl
 in_place_spelled shape event h = absurd h
 
 -- two events in one place with one spelling are one

@@ -8,7 +8,7 @@ use Rattle.std.proofs.lemmas.List.Elements.{All-append, All-weaker}
 use Rattle.std.proofs.lemmas.Bool.{ltb-true}
 use Rattle.dg_model.specs.declared.shapes.Shape.{Shape}
 use Rattle.dg_model.specs.declared.events.Event.{Event}
-use Rattle.dg_model.specs.declared.events.Event.TheVariants.{Array, Write, Read, Fail, Replace, Rebuild, Settle, Tend, Diffuse, Who, Pending, Cat, Ls, Tree, Home, Save, Audit}
+use Rattle.dg_model.specs.declared.events.Event.TheVariants.{Array, Write, Read, Fail, Replace, Rebuild, Settle, Tend, Diffuse, Who, Pending, Cat, Ls, Tree, Home, Save, Audit, Regroup, LostFiles, DropDisk, MendDisk}
 use Rattle.dg_text.specs.Lines.{AreBytes, hex_word, path_word, shape_words, spelling, line_of, IsInPlace}
 use Rattle.dg_text.proofs.Cuts.{Lacks, Lacks-from_not, first_cut}
 use Rattle.dg_text.proofs.Numbers.{decimal_lacks}
@@ -77,6 +77,14 @@ spelling_lacks (Some shape) Pending h = plain (codes "pending") refl
 spelling_lacks (Some shape) Tree h = plain (codes "tree") refl
 spelling_lacks (Some shape) Save h = plain (codes "save") refl
 spelling_lacks (Some shape) Audit h = plain (codes "audit") refl
+spelling_lacks (Some shape) Regroup h = plain (codes "regroup") refl
+spelling_lacks (Some shape) LostFiles h = plain (codes "lostfiles") refl
+spelling_lacks (Some shape) (DropDisk s j) h =
+    joined (codes "drop ") _ (plain (codes "drop ") refl)
+    (joined (decimal s) _ (number s h.0) (joined (codes " ") (decimal j) space (number j h.1)))
+spelling_lacks (Some shape) (MendDisk s j) h =
+    joined (codes "mend ") _ (plain (codes "mend ") refl)
+    (joined (decimal s) _ (number s h.0) (joined (codes " ") (decimal j) space (number j h.1)))
 spelling_lacks shape event h = absurd h
 
 -- where a line and its LF begin a text that begins with an event's line, the line spells the event

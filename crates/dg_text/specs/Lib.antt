@@ -5,6 +5,8 @@ pub mod Lines
 pub mod ListingLineLaws
 pub mod ListingLines
 pub mod Listings
+pub mod LostLineLaws
+pub mod LostLines
 pub mod RawByteLaws
 pub mod RawBytes
 pub mod Refusals
@@ -12,3 +14,4 @@ pub mod Replies
 pub mod SinkCallSteps
 pub mod Texts
 pub mod ToldSteps
+pub mod WrittenTexts

@@ -8,7 +8,7 @@ use Rattle.hex.specs.Hex.{encode_lower}
 use Rattle.dg_model.specs.Shapes.{IsShape}
 use Rattle.dg_model.specs.declared.shapes.Shape.{Shape}
 use Rattle.dg_model.specs.declared.events.Event.{Event}
-use Rattle.dg_model.specs.declared.events.Event.TheVariants.{Array, Write, Read, Fail, Replace, Rebuild, Settle, Tend, Diffuse, Who, Pending, Cat, Ls, Tree, Home, Save, Audit}
+use Rattle.dg_model.specs.declared.events.Event.TheVariants.{Array, Write, Read, Fail, Replace, Rebuild, Settle, Tend, Diffuse, Who, Pending, Cat, Ls, Tree, Home, Save, Audit, Regroup, LostFiles, DropDisk, MendDisk}
 use Rattle.ufs_model.specs.Paths.{is_path}
 
 -- bytes as a word
@@ -32,7 +32,7 @@ path_word path = flat_map spelled_byte path
 abbrev pub shape_words : Shape → List ℕ
 shape_words s = decimal s.l ++ (codes " " ++ (decimal s.n ++ (codes " " ++ (decimal s.b ++ (codes " " ++ (decimal s.k ++ (codes " " ++ decimal s.m)))))))
 
--- the one spelling of an event. No line spells the events past these yet
+-- the one spelling of an event. No line spells `Safe` and `Parity`
 abbrev pub spelling : Event → List ℕ
 spelling (Array s) = codes "array " ++ shape_words s
 spelling (Write b bytes) = codes "write " ++ (decimal b ++ (codes " " ++ hex_word bytes))
@@ -51,6 +51,10 @@ spelling Tree = codes "tree"
 spelling (Home path) = codes "home " ++ path_word path
 spelling Save = codes "save"
 spelling Audit = codes "audit"
+spelling Regroup = codes "regroup"
+spelling LostFiles = codes "lostfiles"
+spelling (DropDisk s j) = codes "drop " ++ (decimal s ++ (codes " " ++ decimal j))
+spelling (MendDisk s j) = codes "mend " ++ (decimal s ++ (codes " " ++ decimal j))
 spelling event = []
 
 -- its line
@@ -86,6 +90,10 @@ IsInPlace (Some shape) Tree = Unit {0}
 IsInPlace (Some shape) (Home path) = (is_path path ≡ true) × AreBytes path
 IsInPlace (Some shape) Save = Unit {0}
 IsInPlace (Some shape) Audit = Unit {0}
+IsInPlace (Some shape) Regroup = Unit {0}
+IsInPlace (Some shape) LostFiles = Unit {0}
+IsInPlace (Some shape) (DropDisk s j) = (s < 2 ^ 32) × (j < 2 ^ 32)
+IsInPlace (Some shape) (MendDisk s j) = (s < 2 ^ 32) × (j < 2 ^ 32)
 IsInPlace (Some shape) event = ⊥
 
 -- the events of an input are in their places: the first makes an array, and the others follow it

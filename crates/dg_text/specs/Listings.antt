@@ -6,11 +6,16 @@ use Rattle.dg_text.specs.Replies.{entry_line, node_line, entries_text, nodes_tex
 use Rattle.dg_text.specs.declared.listings.Form.{Form}
 use Rattle.dg_text.specs.declared.listings.Form.TheVariants.{Directory, Volume}
 use Rattle.ufs_model.specs.Listings.{Listed}
+use Rattle.ufs_model.specs.declared.inodes.Kind.{Kind}
 
 -- the line of an entry
 abbrev pub line_in : Form → Listed → List ℕ
 line_in Directory entry = entry_line entry
 line_in Volume entry = node_line entry
+
+-- the same, by what is told of it
+abbrev pub line_in_of : Form → ℕ → ℕ → Kind → ℕ → List ℕ → List ℕ
+line_in_of form depth inode kind size name = line_in form (record { depth = depth; inode = inode; kind = kind; size = size; name = name })
 
 -- its first word, and its depth where that is told
 abbrev pub front_in : Form → ℕ → List ℕ

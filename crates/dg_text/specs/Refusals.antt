@@ -8,7 +8,7 @@ use Rattle.dg_model.specs.declared.events.Event.{Event}
 use Rattle.ufs_model.specs.Paths.{is_path}
 use Rattle.dg_text.specs.Lines.{AreBytes, hex_word, path_word, spelling, block_bytes, IsInPlace}
 use Rattle.dg_text.specs.declared.kinds.EventKind.{EventKind}
-use Rattle.dg_text.specs.declared.kinds.EventKind.TheVariants.{Array, Write, Read, Fail, Replace, Rebuild, Settle, Tend, Diffuse, Who, Pending, Cat, Ls, Tree, Home, Save, Audit}
+use Rattle.dg_text.specs.declared.kinds.EventKind.TheVariants.{Array, Write, Read, Fail, Replace, Rebuild, Settle, Tend, Diffuse, Who, Pending, Cat, Ls, Tree, Home, Save, Audit, Regroup, LostFiles, Drop, Mend}
 use Rattle.dg_text.specs.declared.kinds.Tail.{Tail}
 use Rattle.dg_text.specs.declared.kinds.Tail.TheVariants.{Nothing, Bytes, Path as PathTail}
 use Rattle.dg_text.specs.declared.lines.BadLine.{BadLine}
@@ -59,6 +59,10 @@ word_of Tree = codes "tree"
 word_of Home = codes "home"
 word_of Save = codes "save"
 word_of Audit = codes "audit"
+word_of Regroup = codes "regroup"
+word_of LostFiles = codes "lostfiles"
+word_of Drop = codes "drop"
+word_of Mend = codes "mend"
 
 -- how many numbers stand behind it
 abbrev pub numbers_of : EventKind → ℕ
@@ -79,6 +83,10 @@ numbers_of Tree = 0
 numbers_of Home = 0
 numbers_of Save = 0
 numbers_of Audit = 0
+numbers_of Regroup = 0
+numbers_of LostFiles = 0
+numbers_of Drop = 2
+numbers_of Mend = 2
 
 -- what stands behind the numbers
 abbrev pub tail_of : EventKind → Tail
@@ -99,6 +107,10 @@ tail_of Tree = Nothing
 tail_of Home = PathTail
 tail_of Save = Nothing
 tail_of Audit = Nothing
+tail_of Regroup = Nothing
+tail_of LostFiles = Nothing
+tail_of Drop = Nothing
+tail_of Mend = Nothing
 
 -- how many words that is
 abbrev pub tail_count : Tail → ℕ

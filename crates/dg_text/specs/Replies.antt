@@ -29,6 +29,10 @@ use Rattle.dg_text.specs.Lines.{hex_word, path_word}
 use Rattle.dg_text.specs.declared.lines.BadLine.{BadLine}
 use Rattle.dg_text.specs.declared.lines.BadLine.TheVariants.{Long as BadLong, Size as BadSize, Cut as BadCut, Word as BadWord, Order as BadOrder, Form as BadForm, Number as BadNumber, Limits as BadLimits, Hex as BadHex, Path as BadPath}
 
+-- the text of lines, and the line that ends them by a word and a number
+abbrev pub ended_text : List ℕ → List ℕ → ℕ → List ℕ
+ended_text text word n = (text ++ (word ++ decimal n)) ++ codes "\n"
+
 -- the line of some bytes of a file
 abbrev pub bytes_line : List ℕ → List ℕ
 bytes_line bytes = codes "bytes " ++ (encode_lower bytes ++ codes "\n")
@@ -167,6 +171,10 @@ copy_words (Some s) = codes " copy " ++ decimal s
 -- the line of a file that lost blocks
 abbrev pub lost_line : PathOf → List ℕ
 lost_line lost = codes "lost " ++ (decimal lost.inode ++ (codes " " ++ (path_word lost.path ++ codes "\n")))
+
+-- the same, by its inode and its path
+abbrev pub lost_line_of : ℕ → List ℕ → List ℕ
+lost_line_of inode path = lost_line (record { inode = inode; path = path })
 
 -- the lines of some such files
 abbrev pub lost_text : List PathOf → List ℕ

@@ -3,20 +3,16 @@ use Rattle.std.specs.Prelude.{◌≡◌, ◌≤◌, ◌<◌, ◌^◌, Bool, true
 use Rattle.std.specs.Fmt.{decimal}
 use Rattle.dg_model.specs.declared.shapes.Shape.{Shape}
 use Rattle.dg_model.specs.declared.events.Event.{Event}
-use Rattle.dg_model.specs.declared.events.Event.TheVariants.{Array, Write, Read, Fail, Replace, Rebuild, Settle, Tend, Diffuse, Who, Pending, Cat, Ls, Tree, Home, Save, Safe, Parity, Regroup, LostFiles, Audit, DropDisk, MendDisk}
+use Rattle.dg_model.specs.declared.events.Event.TheVariants.{Array, Write, Read, Fail, Replace, Rebuild, Settle, Tend, Diffuse, Who, Pending, Cat, Ls, Tree, Home, Save, Safe, Parity, Audit, Regroup, LostFiles, DropDisk, MendDisk}
 use Rattle.dg_text.specs.Lines.{AreBytes, hex_word, path_word, shape_words, spelling, IsInPlace}
 use Rattle.dg_text.specs.Refusals.{IsNumberWord, IsPathWord, word_of}
 use Rattle.dg_text.specs.declared.kinds.EventKind.{EventKind}
-use Rattle.dg_text.specs.declared.kinds.EventKind.TheVariants.{Array as KindArray, Write as KindWrite, Read as KindRead, Fail as KindFail, Replace as KindReplace, Rebuild as KindRebuild, Settle as KindSettle, Tend as KindTend, Diffuse as KindDiffuse, Who as KindWho, Pending as KindPending, Cat as KindCat, Ls as KindLs, Tree as KindTree, Home as KindHome, Save as KindSave, Audit as KindAudit}
+use Rattle.dg_text.specs.declared.kinds.EventKind.TheVariants.{Array as KindArray, Write as KindWrite, Read as KindRead, Fail as KindFail, Replace as KindReplace, Rebuild as KindRebuild, Settle as KindSettle, Tend as KindTend, Diffuse as KindDiffuse, Who as KindWho, Pending as KindPending, Cat as KindCat, Ls as KindLs, Tree as KindTree, Home as KindHome, Save as KindSave, Audit as KindAudit, Regroup as KindRegroup, LostFiles as KindLostFiles, Drop as KindDrop, Mend as KindMend}
 
 -- whether a line spells the event
 abbrev pub is_spelled : Event → Bool
 is_spelled (Safe s) = false
 is_spelled (Parity s d) = false
-is_spelled Regroup = false
-is_spelled LostFiles = false
-is_spelled (DropDisk s d) = false
-is_spelled (MendDisk s d) = false
 is_spelled event = true
 
 -- the kind of an event; of one that no line spells, any kind
@@ -38,6 +34,10 @@ event_kind Tree = KindTree
 event_kind (Home path) = KindHome
 event_kind Save = KindSave
 event_kind Audit = KindAudit
+event_kind Regroup = KindRegroup
+event_kind LostFiles = KindLostFiles
+event_kind (DropDisk s j) = KindDrop
+event_kind (MendDisk s j) = KindMend
 event_kind event = KindSave
 
 -- two numbers, and what stands between them
@@ -63,6 +63,10 @@ rest_of Tree = []
 rest_of (Home path) = codes " " ++ path_word path
 rest_of Save = []
 rest_of Audit = []
+rest_of Regroup = []
+rest_of LostFiles = []
+rest_of (DropDisk s j) = two_numbers s j
+rest_of (MendDisk s j) = two_numbers s j
 rest_of event = []
 
 -- a text of two numbers
@@ -80,6 +84,8 @@ IsTextOf shape KindRead text = IsNumberWord text
 IsTextOf shape KindFail text = AreTwoNumbers text
 IsTextOf shape KindReplace text = AreTwoNumbers text
 IsTextOf shape KindRebuild text = AreTwoNumbers text
+IsTextOf shape KindDrop text = AreTwoNumbers text
+IsTextOf shape KindMend text = AreTwoNumbers text
 IsTextOf shape KindTend text = IsNumberWord text
 IsTextOf shape KindWho text = IsNumberWord text
 IsTextOf shape KindCat text = IsPathWord text

@@ -39,6 +39,14 @@ pub enum EventKind {
     Save,
     /// `audit`
     Audit,
+    /// `regroup`
+    Regroup,
+    /// `lostfiles`
+    LostFiles,
+    /// `drop s j`
+    Drop,
+    /// `mend s j`
+    Mend,
 }
 
 /// What stands behind the numbers of a line.
@@ -75,6 +83,10 @@ pub fn kind_with(word: &[u8]) -> Option<EventKind>
         b"home" => Some(EventKind::Home),
         b"save" => Some(EventKind::Save),
         b"audit" => Some(EventKind::Audit),
+        b"regroup" => Some(EventKind::Regroup),
+        b"lostfiles" => Some(EventKind::LostFiles),
+        b"drop" => Some(EventKind::Drop),
+        b"mend" => Some(EventKind::Mend),
         _ => None,
     }
 }
@@ -102,6 +114,10 @@ impl EventKind {
             EventKind::Home => b"home",
             EventKind::Save => b"save",
             EventKind::Audit => b"audit",
+            EventKind::Regroup => b"regroup",
+            EventKind::LostFiles => b"lostfiles",
+            EventKind::Drop => b"drop",
+            EventKind::Mend => b"mend",
         }
     }
 
@@ -111,7 +127,11 @@ impl EventKind {
     {
         match self {
             EventKind::Array => 5,
-            EventKind::Fail | EventKind::Replace | EventKind::Rebuild => 2,
+            EventKind::Fail
+            | EventKind::Replace
+            | EventKind::Rebuild
+            | EventKind::Drop
+            | EventKind::Mend => 2,
             EventKind::Write | EventKind::Read | EventKind::Tend | EventKind::Who => 1,
             EventKind::Settle
             | EventKind::Diffuse
@@ -121,7 +141,9 @@ impl EventKind {
             | EventKind::Tree
             | EventKind::Home
             | EventKind::Save
-            | EventKind::Audit => 0,
+            | EventKind::Audit
+            | EventKind::Regroup
+            | EventKind::LostFiles => 0,
         }
     }
 
@@ -144,7 +166,11 @@ impl EventKind {
             | EventKind::Pending
             | EventKind::Tree
             | EventKind::Save
-            | EventKind::Audit => Tail::Nothing,
+            | EventKind::Audit
+            | EventKind::Regroup
+            | EventKind::LostFiles
+            | EventKind::Drop
+            | EventKind::Mend => Tail::Nothing,
         }
     }
 

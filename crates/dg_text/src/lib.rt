@@ -12,6 +12,7 @@ mod lines;
 mod listing_lines;
 mod listings;
 mod lost_files;
+mod lost_lines;
 mod path_words;
 mod raw;
 mod replies;
@@ -27,6 +28,7 @@ pub use laws::{
 pub use lines::{BadLine, longest_line, read_line};
 pub use listing_lines::Lines;
 pub use listings::Form;
+pub use lost_lines::LostLines;
 pub use path_words::read_path;
 pub use raw::Raw;
 pub use replies::{

@@ -131,6 +131,8 @@ fn bare_event(kind: EventKind) -> Option<Event>
         EventKind::Tree => Some(Event::Tree),
         EventKind::Save => Some(Event::Save),
         EventKind::Audit => Some(Event::Audit),
+        EventKind::Regroup => Some(Event::Regroup),
+        EventKind::LostFiles => Some(Event::LostFiles),
         _ => None,
     }
 }
@@ -150,6 +152,8 @@ fn event_with(
         EventKind::Fail => Ok(two_numbers(text).map(|(s, j)| Event::Fail(s, j))),
         EventKind::Replace => Ok(two_numbers(text).map(|(s, j)| Event::Replace(s, j))),
         EventKind::Rebuild => Ok(two_numbers(text).map(|(s, n)| Event::Rebuild(s, n))),
+        EventKind::Drop => Ok(two_numbers(text).map(|(s, j)| Event::DropDisk(s, j))),
+        EventKind::Mend => Ok(two_numbers(text).map(|(s, j)| Event::MendDisk(s, j))),
         EventKind::Tend => Ok(whole_number(text).map(Event::Tend)),
         EventKind::Who => Ok(whole_number(text).map(Event::Who)),
         EventKind::Cat => Ok(read_path(alloc, text)?.map(Event::Cat)),

@@ -7,8 +7,8 @@ ghost use Rattle.dg_io.specs.SinkCalls.{LeavesSink};
 ghost use Rattle.std.specs.List.{sum_by};
 ghost use Rattle.dg_text.specs.LineCalls.{entry_calls, pieces};
 ghost use Rattle.dg_text.specs.Lines.{path_word, spelled_byte};
-ghost use Rattle.dg_text.specs.Listings.{front_in, line_in, listing_text};
-ghost use Rattle.dg_text.specs.Replies.{kind_letter};
+ghost use Rattle.dg_text.specs.Listings.{front_in, line_in_of, listing_text};
+ghost use Rattle.dg_text.specs.Replies.{ended_text, kind_letter};
 
 use crate::counts::write_number;
 use crate::path_words::is_plain;
@@ -45,12 +45,12 @@ pub fn write_listing<K: Sink>(
     word: &[u8],
 ) -> Result<(), Failed>
     requires word { length word.now ≤ 32 }
-    ensures ok { OnOk result (Told (Took ((listing_text form entries.now ++ (word.now ++ decimal (length entries.now))) ++ codes "\n"))
-        (K.taken sink.old) (K.taken sink.new)) }
-    ensures err { OnErr result (Told (TookPart ((listing_text form entries.now ++ (word.now ++ decimal (length entries.now))) ++ codes "\n"))
+    ensures ok { OnOk result (Told (Took (ended_text (listing_text form entries.now) word.now (length entries.now))) (K.taken sink.old) (K.taken sink.new)) }
+    ensures err { OnErr result (Told (TookPart (ended_text (listing_text form entries.now) word.now (length entries.now)))
         (K.taken sink.old) (K.taken sink.new)) }
     ensures cause { HasCause (K.faults sink.old) (K.faults sink.new) result }
-    ensures calls { LeavesSink K.whole K.calls (sum_by entry_calls entries.now + 1) (length ((listing_text form entries.now ++ (word.now ++ decimal (length entries.now))) ++ codes "\n")) sink.old sink.new }
+    ensures calls { LeavesSink K.whole K.calls (sum_by entry_calls entries.now + 1)
+        (length (ended_text (listing_text form entries.now) word.now (length entries.now))) sink.old sink.new }
 {
     write_entries(sink, form, entries)?;
     write_number(sink, word, entries.len() as u128)
@@ -87,12 +87,10 @@ pub fn write_entry_line<K: Sink>(
     size: u64,
     name: &[u8],
 ) -> Result<(), Failed>
-    ensures ok { OnOk result (Told (Took (line_in form (record { depth = depth; inode = inode; kind = kind; size = size; name = name.now })))
-        (K.taken sink.old) (K.taken sink.new)) }
-    ensures err { OnErr result (Told (TookPart (line_in form (record { depth = depth; inode = inode; kind = kind; size = size; name = name.now })))
-        (K.taken sink.old) (K.taken sink.new)) }
+    ensures ok { OnOk result (Told (Took (line_in_of form depth inode kind size name.now)) (K.taken sink.old) (K.taken sink.new)) }
+    ensures err { OnErr result (Told (TookPart (line_in_of form depth inode kind size name.now)) (K.taken sink.old) (K.taken sink.new)) }
     ensures cause { HasCause (K.faults sink.old) (K.faults sink.new) result }
-    ensures calls { LeavesSink K.whole K.calls (pieces 255 (length name.now)) (length (line_in form (record { depth = depth; inode = inode; kind = kind; size = size; name = name.now }))) sink.old sink.new }
+    ensures calls { LeavesSink K.whole K.calls (pieces 255 (length name.now)) (length (line_in_of form depth inode kind size name.now)) sink.old sink.new }
 {
     let mut line = [0u8; ENTRY_ROOM];
     let head = spell_head(&mut line, form, depth, inode, kind, size);

@@ -6,7 +6,7 @@ ghost use Rattle.dg_io.specs.Faults.{HasCause};
 ghost use Rattle.dg_io.specs.SinkCalls.{LeavesSink};
 ghost use Rattle.std.specs.List.{sum_by};
 ghost use Rattle.dg_text.specs.LineCalls.{path_calls, pieces};
-ghost use Rattle.dg_text.specs.Replies.{lost_line, lost_text};
+ghost use Rattle.dg_text.specs.Replies.{ended_text, lost_line_of, lost_text};
 
 use crate::counts::write_number;
 use crate::listings::write_name;
@@ -27,12 +27,11 @@ const LINE_ROOM: usize = HEAD_ROOM + 4 * LONGEST_PATH + 1;
 /// Writes the lines of files that lost blocks, and the one that ends them.
 pub fn write_lost<K: Sink>(sink: &mut K, files: &[LostPath], word: &[u8]) -> Result<(), Failed>
     requires word { length word.now ≤ 32 }
-    ensures ok { OnOk result (Told (Took ((lost_text files.now ++ (word.now ++ decimal (length files.now))) ++ codes "\n"))
-        (K.taken sink.old) (K.taken sink.new)) }
-    ensures err { OnErr result (Told (TookPart ((lost_text files.now ++ (word.now ++ decimal (length files.now))) ++ codes "\n"))
-        (K.taken sink.old) (K.taken sink.new)) }
+    ensures ok { OnOk result (Told (Took (ended_text (lost_text files.now) word.now (length files.now))) (K.taken sink.old) (K.taken sink.new)) }
+    ensures err { OnErr result (Told (TookPart (ended_text (lost_text files.now) word.now (length files.now))) (K.taken sink.old) (K.taken sink.new)) }
     ensures cause { HasCause (K.faults sink.old) (K.faults sink.new) result }
-    ensures calls { LeavesSink K.whole K.calls (sum_by path_calls files.now + 1) (length ((lost_text files.now ++ (word.now ++ decimal (length files.now))) ++ codes "\n")) sink.old sink.new }
+    ensures calls { LeavesSink K.whole K.calls (sum_by path_calls files.now + 1)
+        (length (ended_text (lost_text files.now) word.now (length files.now))) sink.old sink.new }
 {
     write_files(sink, files)?;
     write_number(sink, word, files.len() as u128)
@@ -51,12 +50,12 @@ fn write_files<K: Sink>(sink: &mut K, files: &[LostPath]) -> Result<(), Failed>
     Ok(())
 }
 
-// Writes the line of a file that lost blocks.
-fn write_lost_line<K: Sink>(sink: &mut K, inode: u32, path: &[u8]) -> Result<(), Failed>
-    ensures ok { OnOk result (Told (Took (lost_line (record { inode = inode; path = path.now }))) (K.taken sink.old) (K.taken sink.new)) }
-    ensures err { OnErr result (Told (TookPart (lost_line (record { inode = inode; path = path.now }))) (K.taken sink.old) (K.taken sink.new)) }
+/// Writes the line of a file that lost blocks.
+pub fn write_lost_line<K: Sink>(sink: &mut K, inode: u32, path: &[u8]) -> Result<(), Failed>
+    ensures ok { OnOk result (Told (Took (lost_line_of inode path.now)) (K.taken sink.old) (K.taken sink.new)) }
+    ensures err { OnErr result (Told (TookPart (lost_line_of inode path.now)) (K.taken sink.old) (K.taken sink.new)) }
     ensures cause { HasCause (K.faults sink.old) (K.faults sink.new) result }
-    ensures calls { LeavesSink K.whole K.calls (pieces 1023 (length path.now)) (length (lost_line (record { inode = inode; path = path.now }))) sink.old sink.new }
+    ensures calls { LeavesSink K.whole K.calls (pieces 1023 (length path.now)) (length (lost_line_of inode path.now)) sink.old sink.new }
 {
     let mut line = [0u8; LINE_ROOM];
     let head = spell_lost(&mut line, inode);

@@ -1,6 +1,5 @@
 // Replies. Each line that an array can answer is written by one call, without memory.
 ghost use Rattle.std.specs.Prelude.{◌≡◌, ◌≤◌, ◌+◌, ◌*◌, ◌++◌, length, take, codes, OnOk, OnErr};
-ghost use Rattle.std.specs.Fmt.{decimal};
 ghost use Rattle.std.specs.List.{concat, sum_by};
 ghost use Rattle.dg_io.specs.Told.{Told, Took, TookPart};
 ghost use Rattle.dg_io.specs.Faults.{HasCause};
@@ -8,7 +7,8 @@ ghost use Rattle.dg_io.specs.SinkCalls.{LeavesSink};
 ghost use Rattle.hex.specs.Hex.{encode_lower};
 ghost use Rattle.dg_text.specs.HexLines.{last_line};
 ghost use Rattle.dg_text.specs.LineCalls.{bytes_calls, calls_of};
-ghost use Rattle.dg_text.specs.Replies.{reply_line, refusal, kind_of, usage, block_line, bytes_line, file_text, blocks_text, super_word, bad_word, refusal_words};
+ghost use Rattle.dg_text.specs.Replies.{reply_line, refusal, kind_of, usage, block_line, bytes_line, ended_text, file_text, blocks_text};
+ghost use Rattle.dg_text.specs.Replies.{super_word, bad_word, refusal_words};
 
 use crate::BadLine;
 use crate::audits::write_audit;
@@ -176,12 +176,11 @@ fn bytes_in(lines: &[Bytes]) -> u128
 // Writes the lines of a file, and the one that ends it.
 fn write_file<K: Sink>(sink: &mut K, lines: &[Bytes], word: &[u8]) -> Result<(), Failed>
     requires word { length word.now ≤ 32 }
-    ensures ok { OnOk result (Told (Took ((file_text lines.now ++ (word.now ++ decimal (length (concat lines.now)))) ++ codes "\n"))
-        (K.taken sink.old) (K.taken sink.new)) }
-    ensures err { OnErr result (Told (TookPart ((file_text lines.now ++ (word.now ++ decimal (length (concat lines.now)))) ++ codes "\n"))
-        (K.taken sink.old) (K.taken sink.new)) }
+    ensures ok { OnOk result (Told (Took (ended_text (file_text lines.now) word.now (length (concat lines.now)))) (K.taken sink.old) (K.taken sink.new)) }
+    ensures err { OnErr result (Told (TookPart (ended_text (file_text lines.now) word.now (length (concat lines.now)))) (K.taken sink.old) (K.taken sink.new)) }
     ensures cause { HasCause (K.faults sink.old) (K.faults sink.new) result }
-    ensures calls { LeavesSink K.whole K.calls (sum_by bytes_calls lines.now + 1) (length ((file_text lines.now ++ (word.now ++ decimal (length (concat lines.now)))) ++ codes "\n")) sink.old sink.new }
+    ensures calls { LeavesSink K.whole K.calls (sum_by bytes_calls lines.now + 1)
+        (length (ended_text (file_text lines.now) word.now (length (concat lines.now)))) sink.old sink.new }
 {
     write_lines(sink, lines)?;
     write_number(sink, word, bytes_in(lines))

@@ -1,5 +1,6 @@
 // Words of a line, exactly: where a text is spelled in the asked way, the answer is what was spelled.
-ghost use Rattle.std.specs.Prelude.{◌≡◌, ◌<◌, ◌⊎◌, ◌↔◌, ◌^◌, ◌++◌, ◌∷◌, ℕ, [], List, All, length, take, slice_index, IsTrue, IfSome, IfNone, MatchOption, Contains};
+ghost use Rattle.std.specs.Prelude.{◌≡◌, ◌<◌, ◌⊎◌, ◌↔◌, ◌^◌, ◌++◌, ◌∷◌, ℕ, [], List, All, length, take, slice_index};
+ghost use Rattle.std.specs.Prelude.{IsTrue, IfSome, IfNone, MatchOption, Contains};
 ghost use Rattle.std.specs.Fmt.{decimal};
 ghost use Rattle.std.specs.Option.{option_copied};
 ghost use Rattle.dg_text.specs.Refusals.{IsNumberWord, words, words_behind};

@@ -29,12 +29,7 @@ fn is_spelled(event: &Event) -> bool
     ensures { result ≡ is_spelled event.now }
 {
     match event {
-        Event::Safe(_)
-        | Event::Parity(_, _)
-        | Event::Regroup
-        | Event::LostFiles
-        | Event::DropDisk(_, _)
-        | Event::MendDisk(_, _) => false,
+        Event::Safe(_) | Event::Parity(_, _) => false,
         _ => true,
     }
 }
@@ -60,6 +55,10 @@ fn kind_of(event: &Event) -> EventKind
         Event::Tree => EventKind::Tree,
         Event::Home(_) => EventKind::Home,
         Event::Audit => EventKind::Audit,
+        Event::Regroup => EventKind::Regroup,
+        Event::LostFiles => EventKind::LostFiles,
+        Event::DropDisk(_, _) => EventKind::Drop,
+        Event::MendDisk(_, _) => EventKind::Mend,
         _ => EventKind::Save,
     }
 }
@@ -75,6 +74,8 @@ fn push_rest(line: &mut Vec<u8>, event: &Event) -> Result<(), NoMemory>
         Event::Fail(s, j) => push_numbers(line, *s, *j),
         Event::Replace(s, j) => push_numbers(line, *s, *j),
         Event::Rebuild(s, n) => push_numbers(line, *s, *n),
+        Event::DropDisk(s, j) => push_numbers(line, *s, *j),
+        Event::MendDisk(s, j) => push_numbers(line, *s, *j),
         Event::Tend(n) => push_number(line, *n),
         Event::Who(b) => push_number(line, *b),
         Event::Cat(path) => push_path(line, path.as_slice()),

@@ -1,5 +1,5 @@
-use dg_model::{NoMemory, Shape};
-use dg_text::{read_line, write_event};
+use dg_model::{Event, NoMemory, Shape};
+use dg_text::{BadLine, read_line, write_event};
 use std::alloc::Global;
 use std::test::Fail;
 
@@ -42,9 +42,110 @@ fn each_event_is_written_back(rt: HostRuntime) -> Result<(), Fail> {
         "tree",
         "home /z",
         "save",
+        "audit",
+        "regroup",
+        "lostfiles",
+        "drop 3 0",
+        "mend 4294967295 1",
     ];
     for line in lines {
         assert!(rt; is_written_back(alloc, line, Some(&SHAPE))?, "{line}");
+    }
+    Ok(())
+}
+
+// Whether an event is written as this line.
+fn is_written_as(alloc: Global, event: &Event, line: &[u8]) -> Result<bool, NoMemory> {
+    let written = write_event(alloc, event)?;
+    Ok(written.as_slice() == line)
+}
+
+#[test]
+fn events_of_disks_and_boundaries_are_spelled(rt: HostRuntime) -> Result<(), Fail> {
+    let alloc = rt.alloc();
+    assert!(rt; is_written_as(alloc, &Event::Regroup, b"regroup")?);
+    assert!(rt; is_written_as(alloc, &Event::LostFiles, b"lostfiles")?);
+    assert!(rt; is_written_as(alloc, &Event::DropDisk(3, 0), b"drop 3 0")?);
+    assert!(rt;
+        is_written_as(
+            alloc,
+            &Event::MendDisk(15, 4294967295),
+            b"mend 15 4294967295"
+        )?
+    );
+    assert!(rt; is_written_as(alloc, &Event::Safe(SHAPE), b"")?);
+    assert!(rt; is_written_as(alloc, &Event::Parity(SHAPE, 4), b"")?);
+    Ok(())
+}
+
+#[test]
+fn lines_of_disks_and_boundaries_are_read(rt: HostRuntime) -> Result<(), Fail> {
+    let alloc = rt.alloc();
+    let shape = Some(&SHAPE);
+    assert!(rt; matches!(read_line(alloc, b"regroup", shape)?, Ok(Event::Regroup)));
+    assert!(rt; matches!(read_line(alloc, b"lostfiles", shape)?, Ok(Event::LostFiles)));
+    assert!(rt;
+        matches!(
+            read_line(alloc, b"drop 1 2", shape)?,
+            Ok(Event::DropDisk(1, 2))
+        )
+    );
+    assert!(rt;
+        matches!(
+            read_line(alloc, b"mend 4294967295 0", shape)?,
+            Ok(Event::MendDisk(4294967295, 0))
+        )
+    );
+    Ok(())
+}
+
+// Why a line is refused in its place, if it is.
+fn fault_of(alloc: Global, line: &str, shape: Option<&Shape>) -> Result<Option<BadLine>, NoMemory> {
+    match read_line(alloc, line.as_bytes(), shape)? {
+        Ok(_) => Ok(None),
+        Err(kind) => Ok(Some(kind)),
+    }
+}
+
+#[test]
+fn other_lines_of_disks_and_boundaries_are_refused(rt: HostRuntime) -> Result<(), Fail> {
+    let alloc = rt.alloc();
+    let forms = [
+        "regroup x",
+        "regroup ",
+        "lostfiles /",
+        "drop",
+        "drop 1",
+        "drop 1  2",
+        "mend 1 2 3",
+    ];
+    for line in forms {
+        assert_eq!(rt;
+            fault_of(alloc, line, Some(&SHAPE))?,
+            Some(BadLine::Form),
+            "{line}"
+        );
+    }
+    for line in ["drop 01 2", "drop 1 -2", "mend 4294967296 0", "mend x 1"] {
+        assert_eq!(rt;
+            fault_of(alloc, line, Some(&SHAPE))?,
+            Some(BadLine::Number),
+            "{line}"
+        );
+    }
+    for line in ["regroups", "lost files", "Drop 1 2", "mended 1 2"] {
+        assert_eq!(rt;
+            fault_of(alloc, line, Some(&SHAPE))?,
+            Some(BadLine::Word),
+            "{line}"
+        );
+    }
+    for line in ["regroup", "lostfiles", "drop 1 2", "mend 1 2"] {
+        assert_eq!(rt;
+            fault_of(alloc, line, None)?,
+            Some(BadLine::Order),
+            "{line}"
+        );
     }
     Ok(())
 }

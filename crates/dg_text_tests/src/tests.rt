@@ -10,11 +10,13 @@ use dg_model::{
     Bytes, Failed, Finding, Findings, ListedEntries, ListedEntry, LostPath, LostPaths, Numbers,
     Reply,
 };
-use dg_text::{BadLine, Form, HexLines, Lines, Raw, write_data, write_refusal, write_reply};
+use dg_text::{
+    BadLine, Form, HexLines, Lines, LostLines, Raw, write_data, write_refusal, write_reply,
+};
 use std::alloc::{AllocError, Global};
 use std::test::Fail;
 use ufs_model::{BadKind, BadSuper, Kind};
-use ufs_path::Listing;
+use ufs_path::{Listing, PathList};
 
 // The line of one byte.
 fn line_of(alloc: Global, byte: u8) -> Result<Bytes, AllocError> {
@@ -222,6 +224,45 @@ fn a_cut_listing_is_written(rt: HostRuntime) -> Result<(), Fail> {
     lines.cut(1)?;
     let text = b"node 2 4294967295 s 18446744073709551615 \\xff\ncut 1\n";
     assert!(rt; sink.taken() == text.as_slice());
+    Ok(())
+}
+
+// Hands on the paths of two files that lost blocks, one by one.
+fn hand_lost<L: PathList>(list: &mut L) -> Result<(), Failed> {
+    list.line(5, b"/d/b")?;
+    list.line(4294967295, b"/x y/\x80\\")
+}
+
+#[test]
+fn lost_files_are_written_one_by_one(rt: HostRuntime) -> Result<(), Fail> {
+    let alloc = rt.alloc();
+    let mut sink = MemSink::new(alloc, 256, Vec::new(alloc))?;
+    let mut lines = LostLines::new(&mut sink);
+    hand_lost(&mut lines)?;
+    lines.end(2)?;
+    let text = b"lost 5 /d/b\nlost 4294967295 /x\\x20y/\\x80\\x5c\nend 2\n";
+    assert!(rt; sink.taken() == text.as_slice());
+    Ok(())
+}
+
+#[test]
+fn a_cut_list_of_lost_files_is_written(rt: HostRuntime) -> Result<(), Fail> {
+    let alloc = rt.alloc();
+    let mut sink = MemSink::new(alloc, 256, Vec::new(alloc))?;
+    let mut lines = LostLines::new(&mut sink);
+    lines.line(7, b"/f")?;
+    lines.cut(1)?;
+    assert!(rt; sink.taken() == b"lost 7 /f\ncut 1\n".as_slice());
+    Ok(())
+}
+
+#[test]
+fn a_line_of_a_lost_file_may_fail(rt: HostRuntime) -> Result<(), Fail> {
+    let alloc = rt.alloc();
+    let mut sink = MemSink::new(alloc, 256, Vec::from_slice(alloc, &[1])?)?;
+    let mut lines = LostLines::new(&mut sink);
+    assert_eq!(rt; hand_lost(&mut lines), Err(Failed));
+    assert!(rt; sink.taken() == b"lost 5 /d/b\n".as_slice());
     Ok(())
 }
 

@@ -11,12 +11,14 @@ use Rattle.dg_model.specs.declared.events.Event.TheVariants.{Array, Audit}
 use Rattle.dg_model.specs.declared.findings.Finding.TheVariants.{Bad}
 use Rattle.dg_model.specs.declared.replies.Reply.{Reply}
 use Rattle.dg_model.specs.declared.replies.Reply.TheVariants.{Audited, Done}
+use Rattle.dg_model.proofs.MomentLaws.{history_traces}
 use Rattle.dg_model.proofs.RunLaws.{trace_more}
 use Rattle.dg_promise.specs.Promises.{AreTold}
 use Rattle.dg_text.specs.Lines.{AreInPlace, input_of}
 use Rattle.dg_text.specs.Replies.{output_of}
 use Rattle.dg_uses.proofs.BlankAudits.{blank_reply}
 use Rattle.dg_uses.proofs.Lines.{AreReplies, OneInput, prints}
+use Rattle.dg_run.specs.Replays.{TellsBoundaries}
 use Rattle.dg_uses.proofs.Promised.{trace_told}
 use Rattle.dg_uses.proofs.Rows.{IsHere, shape_here, shape_is}
 use Rattle.dg_uses.specs.Replays.{HasReplayed, NeverFailed}
@@ -45,9 +47,10 @@ run_replies before blank x (reply ∷ other ∷ replies) is run = absurd run.2
 
 audit_replies : (tells : ℕ → Type 0) → AreReplies tells shape_here (Audit ∷ []) no_volume_told
 audit_replies tells replies run =
-    let trace = trace_told run.before shape_here (Audit ∷ []) replies run.ran.final run.told run.ran.trace in
-    let t = trace_more AreTold run.before shape_here (Audit ∷ []) replies run.ran.final trace in
-    t.is ∙ ap (λ (l : List Reply). Done ∷ l) (run_replies run.before t.blank run.ran.final t.rest t.is_blank t.run)
+    let known = history_traces (TellsBoundaries tells run.ran.final.state) run.before (Array shape_here ∷ Audit ∷ []) replies run.ran.final run.ran.history in
+    let trace = trace_told known.0 shape_here (Audit ∷ []) replies run.ran.final.state run.told known.1 in
+    let t = trace_more AreTold known.0 shape_here (Audit ∷ []) replies run.ran.final.state trace in
+    t.is ∙ ap (λ (l : List Reply). Done ∷ l) (run_replies known.0 t.blank run.ran.final.state t.rest t.is_blank t.run)
 
 pub prints_no_volume : OneInput → (end : Replay) → HasReplayed (codes "array 1024 64 4 32 2\naudit\n") end → NeverFailed end
     → taken_in end.sink ≡ codes "ok\nbad magic 0\nend 1\n"

@@ -272,7 +272,7 @@ module _ (Known : Type 0) (told : Known) (shape : Shape) (some : 0 < shape.b) (o
 -- ---- all steps
 
 -- none of the events takes a boundary out of use
-whole_stay : (shape : Shape) (out : ℕ → Bool) (events : List Event) (replies : List Reply) → StaysWhole shape out events → StayInUse events replies
+pub whole_stay : (shape : Shape) (out : ℕ → Bool) (events : List Event) (replies : List Reply) → StaysWhole shape out events → StayInUse events replies
 whole_stay shape out [] replies whole = tt
 whole_stay shape out (event ∷ events) [] whole = tt
 whole_stay shape out (Write b bytes ∷ events) (reply ∷ replies) whole = (tt, whole_stay shape out events replies whole)

@@ -7,6 +7,7 @@ pub mod Cores
 mod DrilledLaws
 mod Ended
 mod Flat
+mod Held
 pub mod InUse
 mod Lines
 mod LossRows
@@ -14,6 +15,7 @@ mod NextNumbers
 mod OneAudit
 mod OneFinding
 mod OneList
+mod OneLostFiles
 mod OneMark
 mod OneParent
 mod OnePlan
@@ -26,6 +28,8 @@ mod OneVerdict
 pub mod OneView
 mod PastReads
 mod Promised
+mod Quiet
+mod QuietRuns
 mod Ran
 mod ReadOnce
 mod RefusedRows
@@ -34,9 +38,11 @@ mod ResumedAgain
 mod ResumedPromises
 mod Rows
 mod SavedAgain
+mod Seated
 mod Seen
 mod StayWhole
 pub mod StepViews
 mod TakenAway
+mod ToldLostFiles
 pub mod TracedLaws
 mod WordRows

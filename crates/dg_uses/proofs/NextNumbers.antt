@@ -1,35 +1,43 @@
 -- The number of the next save after a step.
-use Rattle.std.proofs.Common.{◌≡◌, ◌∙◌, ◌+◌, ℕ, List, Option, Some, None, refl, ap, inl, inr, false}
+use Rattle.std.proofs.Common.{◌≡◌, ◌∙◌, ◌+◌, ℕ, List, [], ◌∷◌, Option, Some, None, refl, ap, sym, subst, inl, inr, false}
 use Rattle.std.specs.Option.{option_map}
 use Rattle.dg_model.specs.Changes.{Passes, Stays}
 use Rattle.dg_model.specs.Seals.{LastLabel, forgotten, next_sequence}
 use Rattle.dg_model.specs.States.{State}
 use Rattle.dg_model.specs.Steps.{Step}
 use Rattle.dg_model.specs.declared.events.Event.{Event}
-use Rattle.dg_model.specs.declared.events.Event.TheVariants.{Write, Read, Fail, Replace, Rebuild, Settle, Tend, Diffuse, Who, Pending, Cat, Ls, Tree, Home, Save, Audit}
+use Rattle.dg_model.specs.declared.events.Event.TheVariants.{Write, Read, Fail, Replace, Rebuild, Settle, Tend, Diffuse, Who, Pending, Cat, Ls, Tree, Home, Save, LostFiles, Audit, DropDisk, MendDisk}
 use Rattle.dg_model.specs.declared.replies.Reply.{Reply}
-use Rattle.dg_model.specs.declared.replies.Reply.TheVariants.{Done, Range, Degraded, Unavailable, Already, Lost, NotOut, Failed, NotFilling, Copied, Settled, Malformed, NoSpace, Tended, Diffused, NotSettled, Verdict, Blocks, Data, Given, Cut, Listed, ListedCut, Nodes, NodesCut, Refused, HomeAt, NoHome, Saved, NotSaved, Audited}
+use Rattle.dg_model.specs.declared.replies.Reply.TheVariants.{Done, Range, Degraded, Unavailable, Already, Lost, NotOut, Failed, NotFilling, Copied, Settled, Malformed, NoSpace, Tended, Diffused, NotSettled, Verdict, Blocks, Data, Given, Cut, Listed, ListedCut, Nodes, NodesCut, Refused, HomeAt, NoHome, Saved, NotSaved, LostFiles as LostFilesReply, LostFilesCut, Audited, NotParity}
 use Rattle.dg_uses.proofs.Seen.{next_number_is, number_kept}
 
--- the events that a replay serves behind its first one
-abbrev pub IsServed : Event → Type 0
-IsServed (Write b bytes) = Unit {0}
-IsServed (Read b) = Unit {0}
-IsServed (Fail s j) = Unit {0}
-IsServed (Replace s j) = Unit {0}
-IsServed (Rebuild s n) = Unit {0}
-IsServed Settle = Unit {0}
-IsServed (Tend n) = Unit {0}
-IsServed Diffuse = Unit {0}
-IsServed (Who b) = Unit {0}
-IsServed Pending = Unit {0}
-IsServed (Cat path) = Unit {0}
-IsServed (Ls path) = Unit {0}
-IsServed Tree = Unit {0}
-IsServed (Home path) = Unit {0}
-IsServed Save = Unit {0}
-IsServed Audit = Unit {0}
-IsServed event = ⊥
+-- the events that a replay serves behind its first one, but for those that take boundaries out of use. One on a single disk has one reply
+abbrev pub IsServed : Event → Reply → Type 0
+IsServed (Write b bytes) reply = Unit {0}
+IsServed (Read b) reply = Unit {0}
+IsServed (Fail s j) reply = Unit {0}
+IsServed (Replace s j) reply = Unit {0}
+IsServed (Rebuild s n) reply = Unit {0}
+IsServed Settle reply = Unit {0}
+IsServed (Tend n) reply = Unit {0}
+IsServed Diffuse reply = Unit {0}
+IsServed (Who b) reply = Unit {0}
+IsServed Pending reply = Unit {0}
+IsServed (Cat path) reply = Unit {0}
+IsServed (Ls path) reply = Unit {0}
+IsServed Tree reply = Unit {0}
+IsServed (Home path) reply = Unit {0}
+IsServed Save reply = Unit {0}
+IsServed LostFiles reply = Unit {0}
+IsServed Audit reply = Unit {0}
+IsServed (DropDisk s j) reply = reply ≡ NotParity
+IsServed (MendDisk s j) reply = reply ≡ NotParity
+IsServed event reply = ⊥
+
+-- all of them are
+abbrev pub AllServed : List Event → List Reply → Type 0
+AllServed (event ∷ events) (reply ∷ replies) = IsServed event reply × AllServed events replies
+AllServed events replies = Unit {0}
 
 -- a save that is done makes it one more
 abbrev pub next_after : Reply → ℕ → ℕ
@@ -160,7 +168,25 @@ module _ (Known : Type 0) (old new : State) where
   audit_number Unavailable h = stayed old new h.1
   audit_number reply h = absurd h
 
-  pub step_number : (event : Event) (reply : Reply) → IsServed event → Step Known old event reply new → next_sequence new.label ≡ next_after reply (next_sequence old.label)
+  lost_number : (reply : Reply) → Step Known old LostFiles reply new → next_sequence new.label ≡ next_after reply (next_sequence old.label)
+  lost_number NotSettled h = same_label old new h.1
+  lost_number (LostFilesReply lost) h = stayed old new h.2
+  lost_number (Refused refusal) h = stayed old new h.2
+  lost_number Unavailable h = stayed old new h.2
+  lost_number (LostFilesCut lost) h = stayed old new h.3
+  lost_number reply h = absurd h
+
+  drop_number : (s j : ℕ) (reply : Reply) → reply ≡ NotParity → Step Known old (DropDisk s j) reply new → next_sequence new.label ≡ next_after reply (next_sequence old.label)
+  drop_number s j reply is h =
+      subst (λ (z : Reply). next_sequence new.label ≡ next_after z (next_sequence old.label)) (sym is)
+      (same_label old new (subst (λ (z : Reply). Step Known old (DropDisk s j) z new) is h))
+
+  mend_number : (s j : ℕ) (reply : Reply) → reply ≡ NotParity → Step Known old (MendDisk s j) reply new → next_sequence new.label ≡ next_after reply (next_sequence old.label)
+  mend_number s j reply is h =
+      subst (λ (z : Reply). next_sequence new.label ≡ next_after z (next_sequence old.label)) (sym is)
+      (same_label old new (subst (λ (z : Reply). Step Known old (MendDisk s j) z new) is h))
+
+  pub step_number : (event : Event) (reply : Reply) → IsServed event reply → Step Known old event reply new → next_sequence new.label ≡ next_after reply (next_sequence old.label)
   step_number (Write b bytes) reply served h = write_number b bytes reply h
   step_number (Read b) reply served h = read_number b reply h
   step_number (Fail s j) reply served h = fail_number s j reply h
@@ -176,5 +202,8 @@ module _ (Known : Type 0) (old new : State) where
   step_number Tree reply served h = tree_number reply h
   step_number (Home path) reply served h = home_number path reply h
   step_number Save reply served h = save_number reply h
+  step_number LostFiles reply served h = lost_number reply h
   step_number Audit reply served h = audit_number reply h
+  step_number (DropDisk s j) reply served h = drop_number s j reply served h
+  step_number (MendDisk s j) reply served h = mend_number s j reply served h
   step_number event reply served h = absurd served

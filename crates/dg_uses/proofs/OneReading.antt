@@ -37,7 +37,7 @@ use Rattle.dg_uses.proofs.Seen.{Seen, goes_stay, seen_of, state_of, stays_seen}
 -- ---- answers
 
 -- 0 for a value, 1 for a refusal, 2 for none
-abbrev kind : {A E : Type 0} → Option (Result A E) → ℕ
+abbrev pub kind : {A E : Type 0} → Option (Result A E) → ℕ
 kind (Some (Ok a)) = 0
 kind (Some (Err e)) = 1
 kind None = 2
@@ -162,13 +162,13 @@ module _ (c : Seen) (ok : IsPlain c) (d e : Seen) where
 
   module _ {A : Type 0} (reading : Reading (Result A PathRefusal)) where
     -- two answers of one reading are of one kind
-    differ : (a b : Option (Result A PathRefusal)) → IsAnswer c reading a → IsAnswer c reading b → kind a ≡ kind b
+    pub differ : (a b : Option (Result A PathRefusal)) → IsAnswer c reading a → IsAnswer c reading b → kind a ≡ kind b
     differ a b h g = ap kind (one_answer c reading a b h g)
 
-    one_value : (a b : A) → IsAnswer c reading (Some (Ok a)) → IsAnswer c reading (Some (Ok b)) → a ≡ b
+    pub one_value : (a b : A) → IsAnswer c reading (Some (Ok a)) → IsAnswer c reading (Some (Ok b)) → a ≡ b
     one_value a b h g = ap (value a) (one_answer c reading (Some (Ok a)) (Some (Ok b)) h g)
 
-    one_refusal : (a b : PathRefusal) → IsAnswer c reading (Some (Err a)) → IsAnswer c reading (Some (Err b)) → a ≡ b
+    pub one_refusal : (a b : PathRefusal) → IsAnswer c reading (Some (Err a)) → IsAnswer c reading (Some (Err b)) → a ≡ b
     one_refusal a b h g = ap (refusal a) (one_answer c reading (Some (Err a)) (Some (Err b)) h g)
 
   one_inode : (i j : ℕ) (found : Result ℕ PathRefusal) → found ≡ Ok i → found ≡ Ok j → i ≡ j

@@ -2,7 +2,9 @@
 use Rattle.std.proofs.Common.{◌≡◌, ◌∙◌, ◌≤◌, ℕ, List, [], ◌∷◌, length, refl, sym, ap, subst, arith}
 use Rattle.std.specs.Prelude.{replicate}
 use Rattle.std.proofs.lemmas.List.{length-replicate}
+use Rattle.dg_model.proofs.MomentLaws.{history_runs}
 use Rattle.dg_model.proofs.RunLaws.{run_more, run_none}
+use Rattle.dg_model.specs.Moments.Kind.{plain}
 use Rattle.dg_model.specs.Runs.{Run}
 use Rattle.dg_model.specs.States.{State}
 use Rattle.dg_model.specs.Steps.{Step}
@@ -11,7 +13,9 @@ use Rattle.dg_model.specs.declared.events.Event.TheVariants.{Read}
 use Rattle.dg_model.specs.declared.replies.Reply.{Reply}
 use Rattle.dg_model.specs.declared.replies.Reply.TheVariants.{Data, Range, Unavailable}
 use Rattle.dg_run.specs.Calls.{Facts}
+use Rattle.dg_run.specs.Opened.{opened_moment}
 use Rattle.dg_run.specs.Resumes.{RanOn}
+use Rattle.dg_uses.specs.Promises.{resumed_from}
 
 refused : (Known : Type 0) (old new : State) (b : ℕ) (reply : Reply) → old.table.shape.n ≤ b → Step Known old (Read b) reply new → reply ≡ Range
 refused Known old new b Range past h = refl
@@ -31,4 +35,5 @@ past_read tells facts b replies ran past =
     let blocks : List (List ℕ) = replicate ran.source.saved.table.shape.n [] in
     let size : length blocks ≡ ran.source.saved.table.shape.n = length-replicate ran.source.saved.table.shape.n [] in
     let resumed = (ran.runs blocks size).resumed in
-    one_refused _ resumed.state resumed.final b replies (subst (λ (t : Table). t.shape.n ≤ b) (sym resumed.is.table) past) resumed.run
+    one_refused _ (resumed_from resumed) resumed.final.state b replies (subst (λ (t : Table). t.shape.n ≤ b) (sym resumed.is.table) past)
+    (history_runs _ plain (opened_moment resumed.state resumed.first ran.opened) (Read b ∷ []) replies resumed.final resumed.history)

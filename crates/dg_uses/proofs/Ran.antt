@@ -1,25 +1,27 @@
 -- Runs in which no count of faults rose, and after which the rack still tells each member of the array.
-use Rattle.std.proofs.Common.{◌≡◌, false, ℕ, List, [], ◌∷◌, sym, subst}
-use Rattle.std.specs.Prelude.{All, Some}
-use Rattle.std.proofs.lemmas.List.Elements.{All-cons, All-nil, All-weaker}
+use Rattle.std.proofs.Common.{◌≡◌, ◌≢◌, false, ℕ, List, [], ◌∷◌, ap, refl, sym, subst}
+use Rattle.std.specs.Prelude.{All}
+use Rattle.std.proofs.lemmas.List.Elements.{All-cons, All-nil}
 use Rattle.dg_model.specs.Causes.{NoneRose}
+use Rattle.dg_model.specs.Moments.{HistoryOf, Moment}
 use Rattle.dg_model.specs.States.{Counts}
 use Rattle.dg_model.specs.declared.shapes.Shape.{Shape}
 use Rattle.dg_model.specs.declared.events.Event.{Event}
-use Rattle.dg_model.specs.declared.events.Event.TheVariants.{Array, Write, Read, Fail, Replace, Rebuild, Settle, Tend, Diffuse, Who, Pending, Cat, Ls, Tree, Home, Save, Audit}
+use Rattle.dg_model.specs.declared.events.Event.TheVariants.{Array, Write, Read, Fail, Cat, Ls, Regroup}
 use Rattle.dg_model.specs.declared.replies.Reply.{Reply}
 use Rattle.dg_model.specs.declared.replies.Reply.TheVariants.{Done}
 use Rattle.dg_run.specs.Replays.{TellsBoundaries}
-use Rattle.dg_text.specs.Lines.{IsInPlace}
 use Rattle.dg_uses.specs.Replays.{RanSmoothly}
 use Rattle.dg_uses.specs.Views.{Core, View, Views, blank_core}
 use Rattle.dg_uses.specs.Answers.{StaysWhole, answers}
 use Rattle.dg_uses.proofs.Chains.{trace_views}
-use Rattle.dg_uses.proofs.Flat.{trace_answers}
-use Rattle.dg_uses.proofs.InUse.{IsViewed}
-use Rattle.dg_uses.proofs.NextNumbers.{IsServed}
-use Rattle.dg_uses.proofs.OneRun.{BlanksAreSteady, StepsKeepSteady, traces_one}
+use Rattle.dg_uses.proofs.Flat.{trace_answers, whole_stay}
+use Rattle.dg_uses.proofs.InUse.{IsViewed, viewed_stay}
+use Rattle.dg_uses.proofs.NextNumbers.{AllServed}
+use Rattle.dg_uses.proofs.OneRun.{BlanksAreSteady, StepsKeepSteady, served_stay, traces_one}
 use Rattle.dg_uses.proofs.Promised.{all_fit, trace_told}
+use Rattle.dg_uses.proofs.Quiet.{quiet, quiet_counts}
+use Rattle.dg_uses.proofs.QuietRuns.{IsQuiet, Stay, quiet_history, ran_served, stay_for}
 
 -- events that have views are among those of which they are told
 view_viewed : (old : Core) (event : Event) (reply : Reply) (new : Core) → View old event reply new → IsViewed event
@@ -36,48 +38,61 @@ views_viewed old (event ∷ events) [] new views = absurd views
 views_viewed old (event ∷ events) (reply ∷ replies) new views =
     All-cons IsViewed event events (view_viewed old event reply views.0 views.1) (views_viewed views.0 events replies new views.2)
 
-module _ (tells : ℕ → Type 0) (events : List Event) (replies : List Reply) (run : RanSmoothly tells events replies) where
-  none_at_end : NoneRose run.before.faults run.ran.final.counts.faults
-  none_at_end = subst (λ (c : Counts). NoneRose run.before.faults c.faults) (sym run.ran.counts) run.none
+-- the run of the states, over members of which nothing is counted behind the array's own
+module _ (tells : ℕ → Type 0) (shape : Shape) (events : List Event) (replies : List Reply) (run : RanSmoothly tells (Array shape ∷ events) replies)
+    (stay : Stay events replies) where
+  abbrev Told : Type 0
+  Told = TellsBoundaries tells run.ran.final.state
+
+  quiet_ran : IsQuiet Told run.before shape events replies run.ran.final
+  quiet_ran = quiet_history Told run.before shape events replies run.ran.final run.ran.in_place.0.most_boundaries stay run.ran.history
+
+  none_at_end : NoneRose (quiet_counts shape.b quiet_ran.first).faults (quiet_counts shape.b run.ran.final.state.counts).faults
+  none_at_end = quiet_ran.none (subst (λ (c : Counts). NoneRose run.before.faults c.faults) (sym run.ran.counts) run.none)
+
+served_for : (events : List Event) (replies : List Reply) → ((rest : List Reply) → replies ≡ Done ∷ rest → AllServed events rest)
+    → ((reply : Reply) (rest : List Reply) → replies ≡ reply ∷ rest → reply ≡ Done) → Stay events replies
+served_for events [] h first = tt
+served_for events (reply ∷ replies) h first =
+    served_stay events replies (h replies (ap (λ (z : Reply). z ∷ replies) (first reply replies refl)))
+
+first_done : (K : Type 0) (before : Counts) (shape : Shape) (events : List Event) (replies : List Reply) (final : Moment) → HistoryOf K before (Array shape ∷ events) replies final
+    → (reply : Reply) (rest : List Reply) → replies ≡ reply ∷ rest → reply ≡ Done
+first_done K before shape events [] final h reply rest is = absurd h
+first_done K before shape events (Done ∷ replies) final h reply rest is = cc is
+first_done K before shape events (other ∷ replies) final h reply rest is = absurd h
 
 pub ran_views : (tells : ℕ → Type 0) (shape : Shape) (events : List Event) (replies chain : List Reply) (end : Core) → RanSmoothly tells (Array shape ∷ events) replies
     → Views (blank_core shape) events chain end → replies ≡ Done ∷ chain
 ran_views tells shape events replies chain end run views =
-    trace_views (TellsBoundaries tells run.ran.final) run.told shape events run.before replies chain run.ran.final end
-    run.ran.in_place.0 (views_viewed (blank_core shape) events chain end views) (none_at_end tells (Array shape ∷ events) replies run) run.ran.trace views
-
--- a line in its place has an event that a replay serves
-place_served : (shape : Shape) (event : Event) → IsInPlace (Some shape) event → IsServed event
-place_served shape (Array s) place = absurd place
-place_served shape (Write b bytes) place = tt
-place_served shape (Read b) place = tt
-place_served shape (Fail s j) place = tt
-place_served shape (Replace s j) place = tt
-place_served shape (Rebuild s n) place = tt
-place_served shape Settle place = tt
-place_served shape (Tend n) place = tt
-place_served shape Diffuse place = tt
-place_served shape (Who b) place = tt
-place_served shape Pending place = tt
-place_served shape (Cat path) place = tt
-place_served shape (Ls path) place = tt
-place_served shape Tree place = tt
-place_served shape (Home path) place = tt
-place_served shape Save place = tt
-place_served shape Audit place = tt
-place_served shape event place = absurd place
+    let viewed = views_viewed (blank_core shape) events chain end views in
+    let stay = stay_for events replies (λ r. viewed_stay events r viewed) in
+    let q = quiet_ran tells shape events replies run stay in
+    trace_views (TellsBoundaries tells run.ran.final.state) run.told shape events (quiet_counts shape.b q.first) replies chain (quiet shape.b run.ran.final.state) end
+    run.ran.in_place.0 viewed (none_at_end tells shape events replies run stay) q.trace views
 
 pub ran_same : StepsKeepSteady → BlanksAreSteady → (tells told : ℕ → Type 0) (shape : Shape) (events : List Event) (replies others : List Reply)
-    → RanSmoothly tells (Array shape ∷ events) replies → RanSmoothly told (Array shape ∷ events) others → replies ≡ others
-ran_same steps blanks tells told shape events replies others x y =
-    traces_one steps blanks shape events x.before y.before replies others x.ran.final y.ran.final x.ran.in_place.0
-    (All-weaker (IsInPlace (Some shape)) IsServed (place_served shape) events x.ran.in_place.1) (all_fit shape events x.ran.in_place.1)
-    (none_at_end tells (Array shape ∷ events) replies x) (none_at_end told (Array shape ∷ events) others y)
-    (trace_told x.before shape events replies x.ran.final x.told x.ran.trace) (trace_told y.before shape events others y.ran.final y.told y.ran.trace)
+    → All (λ event. event ≢ Regroup) events → RanSmoothly tells (Array shape ∷ events) replies → RanSmoothly told (Array shape ∷ events) others → replies ≡ others
+ran_same steps blanks tells told shape events replies others apart x y =
+    let K = TellsBoundaries tells x.ran.final.state in
+    let L = TellsBoundaries told y.ran.final.state in
+    let serves = ran_served K x.before shape events replies x.ran.final x.ran.in_place.1 apart x.ran.history in
+    let answers = ran_served L y.before shape events others y.ran.final y.ran.in_place.1 apart y.ran.history in
+    let stay = served_for events replies serves (first_done K x.before shape events replies x.ran.final x.ran.history) in
+    let stays = served_for events others answers (first_done L y.before shape events others y.ran.final y.ran.history) in
+    let a = quiet_ran tells shape events replies x stay in
+    let b = quiet_ran told shape events others y stays in
+    traces_one steps blanks shape events (quiet_counts shape.b a.first) (quiet_counts shape.b b.first) replies others
+    (quiet shape.b x.ran.final.state) (quiet shape.b y.ran.final.state) x.ran.in_place.0 serves answers (all_fit shape events x.ran.in_place.1)
+    (none_at_end tells shape events replies x stay) (none_at_end told shape events others y stays)
+    (trace_told (quiet_counts shape.b a.first) shape events replies (quiet shape.b x.ran.final.state) x.told a.trace)
+    (trace_told (quiet_counts shape.b b.first) shape events others (quiet shape.b y.ran.final.state) y.told b.trace)
 
 pub ran_answers : (tells : ℕ → Type 0) (shape : Shape) (events : List Event) (replies : List Reply) → StaysWhole shape (λ q. false) events
     → RanSmoothly tells (Array shape ∷ events) replies
     → replies ≡ Done ∷ answers shape (λ q. false) (λ b. []) events
 ran_answers tells shape events replies whole run =
-    trace_answers (TellsBoundaries tells run.ran.final) run.told run.before shape events replies run.ran.final
-    run.ran.in_place.0 whole (none_at_end tells (Array shape ∷ events) replies run) run.ran.trace
+    let stay = stay_for events replies (λ r. whole_stay shape (λ q. false) events r whole) in
+    let q = quiet_ran tells shape events replies run stay in
+    trace_answers (TellsBoundaries tells run.ran.final.state) run.told (quiet_counts shape.b q.first) shape events replies (quiet shape.b run.ran.final.state)
+    run.ran.in_place.0 whole (none_at_end tells shape events replies run stay) q.trace

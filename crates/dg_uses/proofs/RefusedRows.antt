@@ -10,11 +10,13 @@ use Rattle.std.proofs.lemmas.Slice.Eq.{bytes_eq-Decides}
 use Rattle.dg_io.specs.Racks.{counts_in, member_in, told_in}
 use Rattle.dg_io.specs.Sinks.{taken_in}
 use Rattle.dg_io.specs.Sources.{left_in}
+use Rattle.dg_model.proofs.MomentLaws.{history_traces}
 use Rattle.dg_model.proofs.RunLaws.{run_none, trace_more}
+use Rattle.dg_model.specs.Moments.{HistoryOf, Moment}
 use Rattle.dg_model.specs.Runs.{Trace}
 use Rattle.dg_model.specs.States.{Counts, State}
 use Rattle.dg_model.specs.declared.events.Event.{Event}
-use Rattle.dg_model.specs.declared.events.Event.TheVariants.{Array, Write, Read, Fail, Replace, Rebuild, Settle, Tend, Diffuse, Who, Pending, Cat, Ls, Tree, Home, Save, Audit}
+use Rattle.dg_model.specs.declared.events.Event.TheVariants.{Array, Write, Read, Fail, Replace, Rebuild, Settle, Tend, Diffuse, Who, Pending, Cat, Ls, Tree, Home, Save, Audit, DropDisk, LostFiles, MendDisk, Regroup}
 use Rattle.dg_model.specs.declared.replies.Reply.{Reply}
 use Rattle.dg_model.specs.declared.replies.Reply.TheVariants.{Done}
 use Rattle.dg_model.specs.declared.shapes.Shape.{Shape}
@@ -50,6 +52,15 @@ array_alone Known before shape replies final trace =
     let t = trace_more Known before shape [] replies final trace in
     t.is ∙ ap (λ (l : List Reply). Done ∷ l) (run_none Known t.blank final t.rest t.run).0
 
+-- the same of histories
+history_none : (Known : Type 0) (before : Counts) (replies : List Reply) (final : Moment) → HistoryOf Known before [] replies final → replies ≡ []
+history_none Known before replies final h =
+    let t = history_traces Known before [] replies final h in trace_none Known t.0 replies final.state t.1
+
+made_alone : (Known : Type 0) (before : Counts) (shape : Shape) (replies : List Reply) (final : Moment) → HistoryOf Known before (Array shape ∷ []) replies final → replies ≡ Done ∷ []
+made_alone Known before shape replies final h =
+    let t = history_traces Known before (Array shape ∷ []) replies final h in array_alone Known t.0 shape replies final.state t.1
+
 -- ---- a line is refused
 
 abbrev refused : List ℕ
@@ -84,6 +95,10 @@ no_reed shape Tree more h e = absurd (omega (arith, at 0 _ _ e))
 no_reed shape (Home path) more h e = absurd (omega (arith, at 0 _ _ e))
 no_reed shape Save more h e = absurd (omega (arith, at 0 _ _ e))
 no_reed shape Audit more h e = absurd (omega (arith, at 0 _ _ e))
+no_reed shape Regroup more h e = absurd (omega (arith, at 2 _ _ e))
+no_reed shape LostFiles more h e = absurd (omega (arith, at 0 _ _ e))
+no_reed shape (DropDisk s j) more h e = absurd (omega (arith, at 0 _ _ e))
+no_reed shape (MendDisk s j) more h e = absurd (omega (arith, at 0 _ _ e))
 no_reed shape event more h e = h
 
 -- `reed` is the word of no event
@@ -105,6 +120,10 @@ reed_differs event_kind.Tree = refl
 reed_differs event_kind.Home = refl
 reed_differs event_kind.Save = refl
 reed_differs event_kind.Audit = refl
+reed_differs event_kind.Regroup = refl
+reed_differs event_kind.LostFiles = refl
+reed_differs event_kind.Drop = refl
+reed_differs event_kind.Mend = refl
 
 reed_words : words (codes "reed 3") ≡ codes "reed" ∷ codes "3" ∷ []
 unfolding words
@@ -158,7 +177,7 @@ stops one before now images bytes tells (Array s ∷ []) replies kind text taken
     let size : length (line_of (Array s) ++ []) ≡ 21 = ap length (append-nil (line_of (Array s))) ∙ ap (λ (event : Event). length (line_of event)) (sym split.0) ∙ line_short in
     let by = subst (λ (t : List ℕ). IsRefusedBy (Some s) (2 ^ 40 - length (input_of (Array s ∷ []))) t kind) (sym split.1) stop.by_kind in
     let word : kind ≡ Word = reed_kind s (2 ^ 40 - length (input_of (Array s ∷ []))) kind (omega (arith, size)) by in
-    took ∙ ap (λ (l : List Reply). output_of l ++ refusal 2 kind) (array_alone (TellsBoundaries tells ran.final) before s replies ran.final ran.trace)
+    took ∙ ap (λ (l : List Reply). output_of l ++ refusal 2 kind) (made_alone (TellsBoundaries tells ran.final.state) before s replies ran.final ran.history)
     ∙ ap (λ (k : BadLine). output_of (Done ∷ []) ++ refusal 2 k) word ∙ refused_output
 stops one before now images bytes tells (Array s ∷ event ∷ es) replies kind text taken ran is stop took =
     let split = one None (Array shape_here) (Array s) (codes "reed 3\n") (input_of (event ∷ es) ++ text) shape_is ran.in_place.0
@@ -212,11 +231,11 @@ no_line (event ∷ es) more e =
 reply_cut : OneLine → (before now : Counts) (images bytes : ℕ → Option (List ℕ)) (tells : ℕ → Type 0) (events : List Event) (replies : List Reply) (last : Reply) (more taken : List ℕ) (n : ℕ)
     → Ran before now images bytes tells events (replies ++ last ∷ []) → alone ≡ input_of events ++ more → taken ≡ output_of replies ++ take n (reply_line last) → IsFront taken (codes "ok\n")
 reply_cut one before now images bytes tells [] replies last more taken n ran is took =
-    absurd (no_push replies last (trace_none (TellsBoundaries tells ran.final) before (replies ++ last ∷ []) ran.final ran.trace))
+    absurd (no_push replies last (history_none (TellsBoundaries tells ran.final.state) before (replies ++ last ∷ []) ran.final ran.history))
 reply_cut one before now images bytes tells (Array s ∷ es) replies last more taken n ran is took =
     let only : es ≡ [] = no_line es more (behind one s es more ran.in_place.0 is) in
-    let trace = subst (λ (l : List Event). Trace (TellsBoundaries tells ran.final) before (Array s ∷ l) (replies ++ last ∷ []) ran.final) only ran.trace in
-    let first = no_front replies last Done (array_alone (TellsBoundaries tells ran.final) before s (replies ++ last ∷ []) ran.final trace) in
+    let history = subst (λ (l : List Event). HistoryOf (TellsBoundaries tells ran.final.state) before (Array s ∷ l) (replies ++ last ∷ []) ran.final) only ran.history in
+    let first = no_front replies last Done (made_alone (TellsBoundaries tells ran.final.state) before s (replies ++ last ∷ []) ran.final history) in
     let text : taken ≡ take n (reply_line Done) =
     took ∙ ap (λ (l : List Reply). output_of l ++ take n (reply_line last)) first.0 ∙ ap (λ (r : Reply). take n (reply_line r)) first.1 in
     subst (λ (l : List ℕ). IsFront l (codes "ok\n")) (sym text) (part_is_front n (codes "ok\n"))

@@ -1,5 +1,5 @@
 -- Calls on what is left of a saved array.
-use Rattle.std.proofs.Common.{◌≡◌, [], ◌∷◌, ℕ, Bool, List, subst}
+use Rattle.std.proofs.Common.{◌≡◌, ℕ, Bool, List, subst}
 use Rattle.dg_kept.specs.Saved.{Save}
 use Rattle.dg_model.proofs.MemberLaws.{none_front}
 use Rattle.dg_model.specs.Causes.{NoneRose}
@@ -12,7 +12,7 @@ use Rattle.dg_run.specs.declared.top.Status.{Status}
 use Rattle.dg_saved.specs.Calls.{Facts as SavedFacts}
 use Rattle.dg_saved.specs.Ends.{Answered, EndsCat}
 use Rattle.dg_saved.specs.Texts.{cat_text, gives_file}
-use Rattle.dg_uses.specs.Saves.{GoesOn, HasAnswered, HasGoneOn}
+use Rattle.dg_uses.specs.Saves.{GoesOn, HasAnswered, HasGoneOn, IsAnswered}
 
 pub resumed_as : (tells : ℕ → Type 0) (facts : Facts) (status other : Status) → EndsResume tells facts status → status ≡ other → EndsResume tells facts other
 resumed_as tells facts status other ends is = subst (λ (s : Status). EndsResume tells facts s) is ends
@@ -32,5 +32,5 @@ pub asked_as : (tells : ℕ → Type 0) (facts : SavedFacts) (path : List ℕ) (
 asked_as tells facts path status other ends is = subst (λ (s : Status). EndsSaved (EndsCat tells facts path) facts.taken facts.given s) is ends
 
 pub has_answered : (tells : ℕ → Type 0) (facts : SavedFacts) (old : State) (save : Save) (path : List ℕ) (given : Bool) (one : Answered tells facts (Cat path) cat_text gives_file given)
-    → GoesOn old save facts.images facts.bytes facts.before facts.now (Cat path ∷ []) (one.reply ∷ []) → HasAnswered old save facts (Cat path) cat_text
-has_answered tells facts old save path given one on = record { reply = one.reply; on = on; output = one.output }
+    → IsAnswered old save facts.images facts.bytes facts.before facts.now (Cat path) one.reply → HasAnswered old save facts (Cat path) cat_text
+has_answered tells facts old save path given one is = record { reply = one.reply; is = is; output = one.output }

@@ -3,6 +3,8 @@ use Rattle.std.proofs.Common.{◌≡◌, ◌++◌, ◌∷◌, ℕ, List, length,
 use Rattle.std.specs.Prelude.{All, IfSome, IsSome, Option, Some, None, is_some}
 use Rattle.std.proofs.lemmas.Bool.{cases_lt, false≢true}
 use Rattle.dg_model.proofs.KnownLaws.{run_less}
+use Rattle.dg_model.proofs.MomentLaws.{history_runs}
+use Rattle.dg_model.specs.Moments.Kind.{plain}
 use Rattle.dg_model.specs.Openings.{Found, Opens, Reduced, Says}
 use Rattle.dg_model.specs.Runs.{Run}
 use Rattle.dg_model.specs.Saves.{CanBeSaved, SavedState}
@@ -16,12 +18,14 @@ use Rattle.dg_promise.specs.Promises.{AreTold}
 use Rattle.dg_promise.specs.Readings.{ReadsFrom}
 use Rattle.dg_promise.specs.Steady.{FitsBlock, IsSteady}
 use Rattle.dg_run.specs.Calls.{Facts, met_by}
+use Rattle.dg_run.specs.Opened.{opened_moment}
 use Rattle.dg_run.specs.Resumes.{RanOn}
 use Rattle.dg_saved.specs.Saved.{IsKnown, had}
 use Rattle.dg_text.specs.Lines.{IsInPlace}
 use Rattle.dg_uses.proofs.Promised.{all_fit, all_front}
 use Rattle.dg_uses.proofs.SavedAgain.{opens_told}
 use Rattle.dg_uses.specs.Answers.{TellsEach}
+use Rattle.dg_uses.specs.Promises.{resumed_from}
 
 -- ---- what was read of a member whose bytes are told can be said by a body
 
@@ -47,6 +51,21 @@ had_told : (before after : Option (List ℕ)) → IsSome before → IsSome after
 had_told before None was is = absurd (false≢true is)
 had_told before (Some now) was is = was
 
+-- whatever was counted, a state is steady
+with_counts : (state : State) (counts : Counts) → IsSteady state → IsSteady (record state { counts = counts })
+with_counts state counts h = record {
+  sites = h.sites;
+  size = h.size;
+  homes = h.homes;
+  no_copies = h.no_copies;
+  settled = λ settled. let order = h.settled settled in record {
+    wants = order.wants;
+    seen = record { fit = order.seen.fit; are = order.seen.are };
+    placed = order.placed;
+    sound = order.sound;
+  };
+}
+
 -- ---- a file that is read
 
 -- what is known of opened arrays, and of runs from steady states
@@ -61,7 +80,7 @@ RunsKeep = (first : State) (front : List Event) (path : List ℕ) (rest : List E
 pub resumed_reads : OpensSteady → RunsKeep → (tells : ℕ → Type 0) (facts : Facts) (front rest : List Event) (path : List ℕ) (replies : List Reply)
     (ran : RanOn tells facts (front ++ Cat path ∷ rest) replies) (V : List (List ℕ)) (size : length V ≡ ran.source.saved.table.shape.n)
     → All (λ block. length block ≡ ran.source.saved.table.shape.l) V → TellsEach facts.images → TellsEach facts.bytes → IsKnown tells (met_by facts) ran.opened ran.source V
-    → ReadsFrom (ran.runs V size).resumed.state front path rest replies (ran.runs V size).resumed.final
+    → ReadsFrom (resumed_from (ran.runs V size).resumed) front path rest replies (ran.runs V size).resumed.final.state
 resumed_reads opens_steady keeps tells facts front rest path replies ran V size sizes images bytes known =
     let resumed = (ran.runs V size).resumed in
     let state = resumed.state in
@@ -75,4 +94,7 @@ resumed_reads opens_steady keeps tells facts front rest path replies ran V size 
     let steady = opens_steady ran.source.taken None facts.before state blocks opens can in
     let fit = subst (λ (t : Table). All (FitsBlock t.shape.l) front) (sym resumed.is.table)
     (all_fit ran.source.saved.table.shape front (all_front (IsInPlace (Some ran.source.saved.table.shape)) front (Cat path ∷ rest) ran.lines.in_place)) in
-    keeps state front path rest replies resumed.final steady fit (run_less (λ _. known) state (front ++ Cat path ∷ rest) replies resumed.final resumed.run)
+    let first = resumed_from resumed in
+    let run = history_runs _ plain (opened_moment state resumed.first ran.opened) (front ++ Cat path ∷ rest) replies resumed.final resumed.history in
+    keeps first front path rest replies resumed.final.state (with_counts state resumed.first steady) fit
+    (run_less (λ _. known) first (front ++ Cat path ∷ rest) replies resumed.final.state run)

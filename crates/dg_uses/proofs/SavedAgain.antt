@@ -1,55 +1,39 @@
 -- What is taken of members that a save was left on, and an array that goes on from them.
-use Rattle.std.proofs.Common.{◌≡◌, ◌∙◌, ◌++◌, ℕ, List, [], ◌∷◌, inl, inr, Bool, true, false, refl, sym, ap, subst}
-use Rattle.std.specs.Prelude.{◌≢◌, All, Option, Some, None, IfSome, IsSome}
+use Rattle.std.proofs.Common.{◌≡◌, ◌∙◌, ◌++◌, ◌<◌, ℕ, List, [], ◌∷◌, inl, inr, Bool, true, false, arith, refl, sym, ap, subst}
+use Rattle.std.specs.Prelude.{All, Option, Some, None, IfSome, IsSome}
 use Rattle.std.proofs.lemmas.Bool.{false≢true}
-use Rattle.std.proofs.lemmas.List.Elements.{All-cons, All-nil, All-weaker}
+use Rattle.std.proofs.lemmas.List.Elements.{All-head, All-tail}
 use Rattle.ufs_model.specs.Blocks.{Volume}
 use Rattle.dg_io.specs.Told.{IsSame, Told}
 use Rattle.dg_kept.specs.Opened.{AreTold}
 use Rattle.dg_kept.specs.Saved.{Save}
-use Rattle.dg_kept.specs.SavedRuns.{IsResumed}
+use Rattle.dg_kept.specs.SavedRuns.{GivesBlock, IsReading, IsResumed}
 use Rattle.dg_kept.specs.Taken.{AreTaken, IsBodyTaken, IsSpared, IsTaken}
-use Rattle.dg_model.proofs.KnownLaws.{run_less}
+use Rattle.dg_model.proofs.KnownLaws.{step_less}
+use Rattle.dg_model.proofs.StepLaws.{StaysInUse, step_keeps}
 use Rattle.dg_model.specs.Causes.{NoneRose, Rose}
-use Rattle.dg_model.specs.Changes.{IsInOrder}
+use Rattle.dg_model.specs.Changes.{IsInOrder, Stays}
 use Rattle.dg_model.specs.Marks.{AreNext}
+use Rattle.dg_model.specs.Moments.{AreCountsOf, History}
+use Rattle.dg_model.specs.Moments.Kind.{plain}
 use Rattle.dg_model.specs.Openings.{Found, IsReopened, Opens, Reduced}
-use Rattle.dg_model.specs.Runs.{Run, Trace}
+use Rattle.dg_model.specs.Runs.{Run}
 use Rattle.dg_model.specs.Saves.{Label, SavedState}
-use Rattle.dg_model.specs.States.{Counts, HoldsAll, State, is_broken}
+use Rattle.dg_model.specs.States.{Counts, State, gone_in, is_broken}
 use Rattle.dg_model.specs.Steps.{Step}
 use Rattle.dg_model.specs.declared.events.Event.{Event}
-use Rattle.dg_model.specs.declared.events.Event.TheVariants.{Array, Safe, Parity, Regroup}
+use Rattle.dg_model.specs.declared.events.Event.TheVariants.{Audit, Cat, Home, LostFiles, Ls, Pending, Read, Regroup, Tree, Who}
 use Rattle.dg_model.specs.declared.replies.Reply.{Reply}
-use Rattle.dg_model.specs.declared.replies.Reply.TheVariants.{Done}
+use Rattle.dg_model.specs.declared.replies.Reply.TheVariants.{Audited, Blocks, Cut, Data, Given, HomeAt, Listed, ListedCut, LostFiles as LostFilesReply, LostFilesCut, NoHome, Nodes, NodesCut, NotSettled, Range, Refused, Unavailable, Verdict}
+use Rattle.dg_model.specs.declared.shapes.Shape.{Shape}
 use Rattle.dg_open.specs.Founds.{AreRead, IsBodyRead, IsPassed, IsRead}
+use Rattle.dg_run.specs.Calls.{Facts as CallFacts, met_by}
+use Rattle.dg_run.specs.Opened.{Reached, opened_moment}
 use Rattle.dg_saved.specs.Calls.{Facts}
-use Rattle.dg_saved.specs.Saved.{HasLooked, HasSource, IsKnown, IsOpenedAs, had}
-use Rattle.dg_text.specs.Lines.{AreInPlace, IsInPlace}
+use Rattle.dg_saved.specs.Saved.{HasLooked, HasSource, IsKnown, IsOpenedAs, RunsFrom, had}
+use Rattle.dg_uses.proofs.QuietRuns.{history_less}
 use Rattle.dg_uses.specs.Answers.{TellsEach}
-use Rattle.dg_uses.specs.Saves.{GoesOn}
-
--- ---- events of a replay
-
--- a trace whose bytes are told, whatever its first event
-pub trace_told : {K : Type 0} → K → (before : Counts) (events : List Event) (replies : List Reply) (last : State) → Trace K before events replies last
-    → Trace AreTold before events replies last
-trace_told known before [] [] last trace = trace
-trace_told known before (Array shape ∷ events) (Done ∷ replies) last trace = (trace.0, trace.1, run_less (λ _. known) trace.0 events replies last trace.2)
-trace_told known before (Safe shape ∷ events) (Done ∷ replies) last trace = (trace.0, trace.1, run_less (λ _. known) trace.0 events replies last trace.2)
-trace_told known before (Parity shape n ∷ events) (Done ∷ replies) last trace = (trace.0, trace.1, run_less (λ _. known) trace.0 events replies last trace.2)
-trace_told known before events replies last trace = absurd trace
-
-abbrev StaysInUse : Event → Type 0
-StaysInUse event = event ≢ Regroup
-
--- no line takes boundaries out of use
-pub lines_stay : (events : List Event) → AreInPlace events → All StaysInUse events
-lines_stay [] place = All-nil StaysInUse
-lines_stay (Array shape ∷ events) place =
-    All-cons StaysInUse (Array shape) events (λ is. subst (λ (e : Event). IsInPlace None e) is place.0)
-    (All-weaker (IsInPlace (Some shape)) StaysInUse (λ event at. λ is. subst (λ (e : Event). IsInPlace (Some shape) e) is at) events place.1)
-lines_stay (event ∷ events) place = absurd place
+use Rattle.dg_uses.specs.Saves.{GoesOn, IsAnswered, IsOpenedAgain}
 
 -- ---- what is taken where no count rose
 
@@ -161,27 +145,51 @@ opens_told known taken beside before state h = record {
   counts = h.counts;
 }
 
--- An array that was opened with the blocks of a save goes on from the old state.
+-- An array that was opened with the blocks of a save has those of the old state.
 module _ (tells : ℕ → Type 0) (facts : Facts) (opened : Counts) (source : HasSource facts opened) (old : State) (save : Save) where
-  pub goes_on : (state : State) → IsOpenedAs tells facts opened source save.blocks state → IsKnown tells facts opened source save.blocks → save.blocks ≡ old.blocks
+  pub opened_again : (state : State) → IsOpenedAs tells facts opened source save.blocks state → IsKnown tells facts opened source save.blocks → save.blocks ≡ old.blocks
       → AreTaken facts.images source.taken → NoneRose facts.before.faults opened.faults
       → ((s : State) → Opens AreTold source.taken None facts.before s → NoneRose facts.before.faults s.counts.faults → IsResumed old save facts.images s)
-      → (events : List Event) (replies : List Reply) (final : State) → Run (IsKnown tells facts opened source save.blocks) state events replies final
-      → (IsKnown tells facts opened source save.blocks → HoldsAll facts.bytes final) → final.counts ≡ facts.now
-      → GoesOn old save facts.images facts.bytes facts.before facts.now events replies
-  goes_on state is known same taken none resume events replies final run holds counts =
+      → IsOpenedAgain old save facts.images facts.before state
+  opened_again state is known same taken none resume =
       let opens = opens_told known source.taken None facts.before state is.opens in
       let quiet : NoneRose facts.before.faults state.counts.faults = subst (λ (c : Counts). NoneRose facts.before.faults c.faults) (sym is.counts) none in
       record {
-        state = state;
         opened = record { taken = source.taken; are = taken; opens = opens; none = quiet };
         resumed = resume state opens quiet;
         blocks = is.blocks ∙ same;
-        final = final;
-        run = run_less (λ _. known) state events replies final run;
-        holds = holds known;
-        counts = counts;
       }
+
+-- A resumed one goes on from there.
+pub goes_on : (tells : ℕ → Type 0) (facts : CallFacts) (opened : Counts) (source : HasSource (met_by facts) opened) (old : State) (save : Save) (events : List Event)
+    (replies : List Reply) (on : Reached tells facts opened source save.blocks events replies) → IsKnown tells (met_by facts) opened source save.blocks
+    → IsOpenedAgain old save facts.images facts.before on.resumed.state → GoesOn old save facts.images facts.bytes facts.before facts.now events replies
+goes_on tells facts opened source old save events replies on known again =
+    let resumed = on.resumed in
+    record {
+      state = resumed.state;
+      again = again;
+      first = resumed.first;
+      begun = subst (λ (c : Counts). AreCountsOf resumed.state.live c resumed.first) (sym resumed.is.counts) resumed.begun;
+      final = resumed.final;
+      history = subst (λ (c : Counts). History AreTold plain (opened_moment resumed.state resumed.first c) events replies resumed.final) (sym resumed.is.counts)
+          (history_less (λ _. known) plain (opened_moment resumed.state resumed.first opened) events replies resumed.final resumed.history);
+      holds = on.holds known;
+      counts = on.counts;
+    }
+
+-- One that was asked for one thing answered from there.
+pub is_answered : (tells : ℕ → Type 0) (facts : Facts) (opened : Counts) (source : HasSource facts opened) (old : State) (save : Save) (event : Event) (reply : Reply)
+    (on : RunsFrom tells facts opened source event reply save.blocks) → IsKnown tells facts opened source save.blocks
+    → IsOpenedAgain old save facts.images facts.before on.state → IsAnswered old save facts.images facts.bytes facts.before facts.now event reply
+is_answered tells facts opened source old save event reply on known again = record {
+  state = on.state;
+  again = again;
+  final = on.next;
+  step = step_less (λ _. known) on.state event reply on.next on.step;
+  holds = on.holds known;
+  counts = on.counts;
+}
 
 -- ---- the reply to an event among others
 
@@ -221,3 +229,84 @@ answered_at first (one ∷ front) event rest (reply ∷ replies) last run =
       new = at.new;
       step = at.step;
     }
+
+-- ---- blocks that are read of an array that went on
+
+keeps_blocks : (old new : State) → Stays old new → new.blocks ≡ old.blocks
+keeps_blocks old new h = ap (λ (s : State). s.blocks) h.rest
+
+reading_keeps : (old : State) (event : Event) (reply : Reply) (new : State) → IsReading event → Step AreTold old event reply new → new.blocks ≡ old.blocks
+reading_keeps old (Read b) Range new is h = ap (λ (s : State). s.blocks) h.1
+reading_keeps old (Read b) Unavailable new is h = keeps_blocks old new h.3
+reading_keeps old (Read b) (Data bytes) new is h = keeps_blocks old new h.5
+reading_keeps old (Who b) Range new is h = ap (λ (s : State). s.blocks) h.1
+reading_keeps old (Who b) Unavailable new is h = ap (λ (s : State). s.blocks) h.2
+reading_keeps old (Who b) (Verdict who) new is h = ap (λ (s : State). s.blocks) h.3
+reading_keeps old Pending (Blocks blocks) new is h = ap (λ (s : State). s.blocks) h.1
+reading_keeps old (Cat path) (Given lines) new is h = ap (λ (s : State). s.blocks) h.2.rest
+reading_keeps old (Cat path) (Refused refusal) new is h = keeps_blocks old new h.1
+reading_keeps old (Cat path) Unavailable new is h = keeps_blocks old new h.1
+reading_keeps old (Cat path) (Cut lines) new is h = keeps_blocks old new h.3
+reading_keeps old (Ls path) (Listed entries) new is h = keeps_blocks old new h.1
+reading_keeps old (Ls path) (Refused refusal) new is h = keeps_blocks old new h.1
+reading_keeps old (Ls path) Unavailable new is h = keeps_blocks old new h.1
+reading_keeps old (Ls path) (ListedCut entries) new is h = keeps_blocks old new h.2
+reading_keeps old Tree NotSettled new is h = ap (λ (s : State). s.blocks) h.1
+reading_keeps old Tree (Nodes entries) new is h = keeps_blocks old new h.2
+reading_keeps old Tree (Refused refusal) new is h = keeps_blocks old new h.2
+reading_keeps old Tree Unavailable new is h = keeps_blocks old new h.2
+reading_keeps old Tree (NodesCut entries) new is h = keeps_blocks old new h.3
+reading_keeps old (Home path) NotSettled new is h = ap (λ (s : State). s.blocks) h.1
+reading_keeps old (Home path) (HomeAt s copy) new is h = keeps_blocks old new h.2
+reading_keeps old (Home path) NoHome new is h = keeps_blocks old new h.2
+reading_keeps old (Home path) (Refused refusal) new is h = keeps_blocks old new h.2
+reading_keeps old (Home path) Unavailable new is h = keeps_blocks old new h.2
+reading_keeps old LostFiles NotSettled new is h = ap (λ (s : State). s.blocks) h.1
+reading_keeps old LostFiles (LostFilesReply lost) new is h = keeps_blocks old new h.2
+reading_keeps old LostFiles (Refused refusal) new is h = keeps_blocks old new h.2
+reading_keeps old LostFiles Unavailable new is h = keeps_blocks old new h.2
+reading_keeps old LostFiles (LostFilesCut lost) new is h = keeps_blocks old new h.3
+reading_keeps old Audit (Audited findings) new is h = keeps_blocks old new h.1
+reading_keeps old Audit Unavailable new is h = keeps_blocks old new h.1
+reading_keeps old (Read b) reply new is h = absurd h
+reading_keeps old (Who b) reply new is h = absurd h
+reading_keeps old Pending reply new is h = absurd h
+reading_keeps old (Cat path) reply new is h = absurd h
+reading_keeps old (Ls path) reply new is h = absurd h
+reading_keeps old Tree reply new is h = absurd h
+reading_keeps old (Home path) reply new is h = absurd h
+reading_keeps old LostFiles reply new is h = absurd h
+reading_keeps old Audit reply new is h = absurd h
+reading_keeps old event reply new is h = absurd is
+
+reading_stays : (event : Event) (reply : Reply) → IsReading event → StaysInUse event reply
+reading_stays Regroup reply is = absurd is
+reading_stays event reply is = tt
+
+-- readings keep the blocks, and the array's numbers
+readings_keep : (first : State) (front : List Event) (answers : List Reply) (mid : State) → All IsReading front → Run AreTold first front answers mid
+    → (mid.blocks ≡ first.blocks) × (mid.table.shape ≡ first.table.shape)
+readings_keep first [] [] mid each run = (ap (λ (s : State). s.blocks) run, ap (λ (s : State). s.table.shape) run)
+readings_keep first [] (reply ∷ answers) mid each run = absurd run
+readings_keep first (event ∷ front) [] mid each run = absurd run
+readings_keep first (event ∷ front) (reply ∷ answers) mid each run =
+    let is = All-head IsReading event front each in
+    let rest = readings_keep run.0 front answers mid (All-tail IsReading event front each) run.2 in (
+      rest.0 ∙ reading_keeps first event reply run.0 is run.1,
+      rest.1 ∙ (step_keeps AreTold first event reply run.0 (reading_stays event reply is) run.1).table.shape,
+    )
+
+gives_block : (mid : State) (b : ℕ) (reply : Reply) (new : State) → b < mid.table.shape.n → Step AreTold mid (Read b) reply new → gone_in new b ≡ false
+    → GivesBlock mid.blocks b reply
+gives_block mid b Range new low h stands = let past = h.0 in absurd (omega (arith, low, past))
+gives_block mid b Unavailable new low h stands = absurd (false≢true (sym stands ∙ h.1))
+gives_block mid b (Data bytes) new low h stands = record { bytes = bytes; reply_is = refl; trimmed = h.2 tt }
+gives_block mid b reply new low h stands = absurd h
+
+-- so each block that is read, and isn't gone, is that of the first state
+pub reads_block : (first : State) (front : List Event) (answers : List Reply) (mid : State) (b : ℕ) (reply : Reply) (new : State) → All IsReading front
+    → Run AreTold first front answers mid → b < first.table.shape.n → Step AreTold mid (Read b) reply new → gone_in new b ≡ false → GivesBlock first.blocks b reply
+reads_block first front answers mid b reply new each run low step stands =
+    let kept = readings_keep first front answers mid each run in
+    subst (λ (v : List (List ℕ)). GivesBlock v b reply) kept.0
+    (gives_block mid b reply new (subst (λ (s : Shape). b < s.n) (sym kept.1) low) step stands)

@@ -1,13 +1,13 @@
 -- All boundaries stay in use, and no block is cut, in each event that a replay serves.
-use Rattle.std.proofs.Common.{◌≡◌, ◌∙◌, ℕ, Bool, false, List, refl, sym, ap, inl, inr}
+use Rattle.std.proofs.Common.{◌≡◌, ◌∙◌, ℕ, Bool, false, List, refl, sym, ap, subst, inl, inr}
 use Rattle.std.specs.Prelude.{replicate, slice_set}
 use Rattle.dg_model.specs.Changes.{Stays}
 use Rattle.dg_model.specs.States.{State}
 use Rattle.dg_model.specs.Steps.{Step}
 use Rattle.dg_model.specs.declared.events.Event.{Event}
-use Rattle.dg_model.specs.declared.events.Event.TheVariants.{Write, Read, Fail, Replace, Rebuild, Settle, Tend, Diffuse, Who, Pending, Cat, Ls, Tree, Home, Save, Audit}
+use Rattle.dg_model.specs.declared.events.Event.TheVariants.{Write, Read, Fail, Replace, Rebuild, Settle, Tend, Diffuse, Who, Pending, Cat, Ls, Tree, Home, Save, LostFiles, Audit, DropDisk, MendDisk}
 use Rattle.dg_model.specs.declared.replies.Reply.{Reply}
-use Rattle.dg_model.specs.declared.replies.Reply.TheVariants.{Done, Range, Degraded, Unavailable, Already, Lost, NotOut, Failed, NotFilling, Copied, Settled, Malformed, NoSpace, Tended, Diffused, NotSettled, Verdict, Blocks, Data, Given, Cut, Listed, ListedCut, Nodes, NodesCut, Refused, HomeAt, NoHome, Saved, NotSaved, Audited}
+use Rattle.dg_model.specs.declared.replies.Reply.TheVariants.{Done, Range, Degraded, Unavailable, Already, Lost, NotOut, Failed, NotFilling, Copied, Settled, Malformed, NoSpace, Tended, Diffused, NotSettled, Verdict, Blocks, Data, Given, Cut, Listed, ListedCut, Nodes, NodesCut, Refused, HomeAt, NoHome, Saved, NotSaved, LostFiles as LostFilesReply, LostFilesCut, Audited, NotParity}
 use Rattle.dg_model.proofs.LineLaws.{none_unmarked}
 use Rattle.dg_uses.proofs.NextNumbers.{IsServed}
 
@@ -144,7 +144,15 @@ module _ (Known : Type 0) (old new : State) (none : old.cut ≡ replicate old.ta
   audit_whole Unavailable h = stays h.1
   audit_whole reply h = absurd h
 
-  pub step_whole : (event : Event) (reply : Reply) → IsServed event → Step Known old event reply new → StaysWhole old new
+  lost_whole : (reply : Reply) → Step Known old LostFiles reply new → StaysWhole old new
+  lost_whole NotSettled h = same h.1
+  lost_whole (LostFilesReply lost) h = stays h.2
+  lost_whole (Refused refusal) h = stays h.2
+  lost_whole Unavailable h = stays h.2
+  lost_whole (LostFilesCut lost) h = stays h.3
+  lost_whole reply h = absurd h
+
+  pub step_whole : (event : Event) (reply : Reply) → IsServed event reply → Step Known old event reply new → StaysWhole old new
   step_whole (Write b bytes) reply served h = write_whole b bytes reply h
   step_whole (Read b) reply served h = read_whole b reply h
   step_whole (Fail s j) reply served h = fail_whole s j reply h
@@ -160,5 +168,8 @@ module _ (Known : Type 0) (old new : State) (none : old.cut ≡ replicate old.ta
   step_whole Tree reply served h = tree_whole reply h
   step_whole (Home path) reply served h = home_whole path reply h
   step_whole Save reply served h = save_whole reply h
+  step_whole LostFiles reply served h = lost_whole reply h
   step_whole Audit reply served h = audit_whole reply h
+  step_whole (DropDisk s j) reply served h = same (subst (λ (z : Reply). Step Known old (DropDisk s j) z new) served h)
+  step_whole (MendDisk s j) reply served h = same (subst (λ (z : Reply). Step Known old (MendDisk s j) z new) served h)
   step_whole event reply served h = absurd served

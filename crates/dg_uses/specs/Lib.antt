@@ -1,5 +1,6 @@
 pub mod Answers
 pub mod Drilled
+pub mod LostFiles
 pub mod Promises
 pub mod Replays
 pub mod Saves

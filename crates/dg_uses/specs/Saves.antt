@@ -6,6 +6,8 @@ use Rattle.dg_kept.specs.Saved.{Save}
 use Rattle.dg_kept.specs.SavedRuns.{AreTakenAway, GivesBlock, IsResumed, LeavesSave}
 use Rattle.dg_kept.specs.Taken.{AreTaken}
 use Rattle.dg_model.specs.Causes.{NoneRose}
+use Rattle.dg_model.specs.Moments.{AreCountsOf, History, Moment}
+use Rattle.dg_model.specs.Moments.Kind.{plain}
 use Rattle.dg_model.specs.Openings.{Found, Opens}
 use Rattle.dg_model.specs.Runs.{Run}
 use Rattle.dg_model.specs.States.{Counts, HoldsAll, State, gone_in}
@@ -14,6 +16,8 @@ use Rattle.dg_model.specs.declared.events.Event.{Event}
 use Rattle.dg_model.specs.declared.events.Event.TheVariants.{Read}
 use Rattle.dg_model.specs.declared.replies.Reply.{Reply}
 use Rattle.dg_run.specs.Calls.{Facts}
+use Rattle.dg_run.specs.Opened.{opened_moment}
+use Rattle.dg_run.specs.Replays.{HoldsInUse}
 use Rattle.dg_saved.specs.Calls.{Facts as SavedFacts}
 use Rattle.dg_text.specs.Lines.{input_of}
 use Rattle.dg_text.specs.Replies.{output_of}
@@ -34,17 +38,38 @@ pub record IsOpenedFrom (images : ℕ → Option (List ℕ)) (before : Counts) (
   pub opens : Opens AreTold taken None before state
   pub none : NoneRose before.faults state.counts.faults
 
--- The array went on from the old state, which was saved: it was opened in a state that is the old one but for members that are out, with all
--- blocks of the old one. From there these events had these replies, in one step after another. The members hold the last state, which has the
--- counts of the rack.
-pub record GoesOn (old : State) (save : Save) (images bytes : ℕ → Option (List ℕ)) (before now : Counts)
-    (events : List Event) (replies : List Reply) : Type 0 where
-  pub state : State
+-- The array was opened in this state, which is the old one but for members that are out, with all blocks of the old one.
+pub record IsOpenedAgain (old : State) (save : Save) (images : ℕ → Option (List ℕ)) (before : Counts) (state : State) : Type 0 where
   pub opened : IsOpenedFrom images before state
   pub resumed : IsResumed old save images state
   pub blocks : state.blocks ≡ old.blocks
+
+-- The array went on from the old state, which was saved: from the state in which it was opened these events had these replies, in one step after
+-- another. Its members had the counts of the rack's when it was opened. The members in use hold the state of the last moment, which has the counts
+-- of the rack.
+pub record GoesOn (old : State) (save : Save) (images bytes : ℕ → Option (List ℕ)) (before now : Counts)
+    (events : List Event) (replies : List Reply) : Type 0 where
+  pub state : State
+  pub again : IsOpenedAgain old save images before state
+  pub first : Counts
+  pub begun : AreCountsOf state.live state.counts first
+  pub final : Moment
+  pub history : History AreTold plain (opened_moment state first state.counts) events replies final
+  pub holds : HoldsInUse bytes final.state
+  pub counts : final.beneath.counts ≡ now
+
+-- the state from which its events go on: the one in which it was opened, with the counts of its members
+abbrev pub first_of : {old : State} {save : Save} {images bytes : ℕ → Option (List ℕ)} {before now : Counts} {events : List Event} {replies : List Reply}
+    → GoesOn old save images bytes before now events replies → State
+first_of on = (opened_moment on.state on.first on.state.counts).state
+
+-- From the state in which the array was opened again, the event had this reply in one step. The members hold the last state, which has the counts
+-- of the rack.
+pub record IsAnswered (old : State) (save : Save) (images bytes : ℕ → Option (List ℕ)) (before now : Counts) (event : Event) (reply : Reply) : Type 0 where
+  pub state : State
+  pub again : IsOpenedAgain old save images before state
   pub final : State
-  pub run : Run AreTold state events replies final
+  pub step : Step AreTold state event reply final
   pub holds : HoldsAll bytes final
   pub counts : final.counts ≡ now
 
@@ -69,8 +94,8 @@ pub record HasGoneOn (old : State) (save : Save) (facts : Facts) : Type 0 where
   pub input : Told (λ b a. (b ≡ input_of events) × (a ≡ [])) facts.left facts.rest
   pub output : Told (Took (output_of replies)) facts.taken facts.given
 
--- An event was answered by the array that went on, and the text of its reply was printed.
+-- An event was answered by the array that was opened again, and the text of its reply was printed.
 pub record HasAnswered (old : State) (save : Save) (facts : SavedFacts) (event : Event) (text : Reply → List ℕ) : Type 0 where
   pub reply : Reply
-  pub on : GoesOn old save facts.images facts.bytes facts.before facts.now (event ∷ []) (reply ∷ [])
+  pub is : IsAnswered old save facts.images facts.bytes facts.before facts.now event reply
   pub output : Told (Took (text reply)) facts.taken facts.given

@@ -1,5 +1,5 @@
 // Laws of runs in which no count of faults rose, and after which the rack still tells each member of the array.
-ghost use Rattle.std.specs.Prelude.{◌≡◌, ◌∷◌, [], false, List};
+ghost use Rattle.std.specs.Prelude.{◌≡◌, ◌≢◌, ◌∷◌, [], All, false, List};
 ghost use Rattle.dg_model.specs.declared.events.Event.{Event};
 ghost use Rattle.dg_model.specs.declared.replies.Reply.{Reply};
 ghost use Rattle.dg_model.specs.declared.shapes.Shape.{Shape};
@@ -10,9 +10,9 @@ ghost use Rattle.dg_uses.specs.Views.{Core, Views, blank_core};
 use dg_io::Rack;
 use dg_promise::{blank_arrays_are_steady, steps_keep_steady};
 
-/// The replies are a function of the events, whichever these are.
+/// The replies are a function of the events, whichever these are, as long as none takes boundaries out of use.
 pub fn replies_are_a_function<R: Rack, Q: Rack>()
-    ensures { (end : R) (other : Q) (shape : Shape) (events : List Event) (replies others : List Reply)
+    ensures { (end : R) (other : Q) (shape : Shape) (events : List Event) (replies others : List Reply) → All (λ event. event ≢ Event.Regroup) events
         → RanSmoothly (R.tells end) (Event.Array shape ∷ events) replies → RanSmoothly (Q.tells other) (Event.Array shape ∷ events) others
         → replies ≡ others }
 {

@@ -18,7 +18,7 @@ pub fn cats_keep_their_promise<R: Rack>()
     ensures { (end : R) (before now : Counts) (images bytes : ℕ → Option (List ℕ)) (shape : Shape) (front rest : List Event) (path : List ℕ)
         (replies : List Reply) → (ran : Ran before now images bytes (R.tells end) (Event.Array shape ∷ (front ++ Event.Cat path ∷ rest))
         (Reply.Done ∷ replies)) → IsToldAtEnd (R.tells end) ran
-        → ReadsInRun before shape front path rest replies ran.final }
+        → ReadsInRun ran.history.1.first shape front path rest replies ran.final.state }
 {
     reads_keep_their_promise();
 }

@@ -7,6 +7,7 @@ ghost use Rattle.dg_run.specs.Calls.{Facts, met_by};
 ghost use Rattle.dg_run.specs.Resumes.{RanOn};
 ghost use Rattle.dg_saved.specs.Saved.{IsKnown};
 ghost use Rattle.dg_uses.specs.Answers.{TellsEach};
+ghost use Rattle.dg_uses.specs.Promises.{resumed_from};
 
 use dg_io::Rack;
 use dg_promise::{opened_arrays_are_steady, steady_runs_keep_their_promise};
@@ -18,7 +19,7 @@ pub fn resumed_cats_keep_their_promise<R: Rack>()
         (ran : RanOn (R.tells end) facts (front ++ Event.Cat path ∷ rest) replies) (V : List (List ℕ)) (size : length V ≡ ran.source.saved.table.shape.n)
         → All (λ block. length block ≡ ran.source.saved.table.shape.l) V → TellsEach facts.images → TellsEach facts.bytes
         → IsKnown (R.tells end) (met_by facts) ran.opened ran.source V
-        → ReadsFrom (ran.runs V size).resumed.state front path rest replies (ran.runs V size).resumed.final }
+        → ReadsFrom (resumed_from (ran.runs V size).resumed) front path rest replies (ran.runs V size).resumed.final.state }
 {
     opened_arrays_are_steady();
     steady_runs_keep_their_promise();

@@ -1,10 +1,8 @@
 // Of a replay that ends with a save, and a call on what is left of its members.
 ghost use Rattle.std.specs.Prelude.{◌≡◌, ◌⊎◌, ◌<◌, ◌++◌, ◌∷◌, [], All, ℕ, List, Option, map, string_bytes};
-ghost use Rattle.dg_kept.specs.Opened.{AreTold};
 ghost use Rattle.dg_kept.specs.Saved.{Save};
-ghost use Rattle.dg_kept.specs.SavedRuns.{EndsWithSave, IsReading};
+ghost use Rattle.dg_kept.specs.SavedRuns.{EndsWithSave, IsReading, WasLed};
 ghost use Rattle.dg_model.specs.Causes.{NoneRose};
-ghost use Rattle.dg_model.specs.Runs.{Trace};
 ghost use Rattle.dg_model.specs.States.{Counts, State};
 ghost use Rattle.dg_model.specs.declared.events.Event.{Event};
 ghost use Rattle.dg_model.specs.declared.replies.Reply.{Reply};
@@ -15,14 +13,14 @@ ghost use Rattle.dg_saved.specs.Calls.{Facts as SavedFacts};
 ghost use Rattle.dg_saved.specs.Saved.{FoundNoState, FoundUnclean, HasRun, TellsArray};
 ghost use Rattle.dg_saved.specs.Texts.{cat_text};
 ghost use Rattle.dg_uses.specs.Promises.{IsToldAtEnd};
-ghost use Rattle.dg_uses.specs.Saves.{GivesSaved, GoesOn, HasAnswered, HasGoneOn, IsFoundAgain};
+ghost use Rattle.dg_uses.specs.Saves.{GivesSaved, GoesOn, HasAnswered, HasGoneOn, IsAnswered, IsFoundAgain, first_of};
 ghost use Rattle.dg_words.specs.Commands.{IsCommand};
 ghost use Rattle.dg_words.specs.declared.commands.Command.{Command};
 
 use dg_io::{Rack, Sink, Source};
 use dg_kept::{
-    boundaries_stay_in_use, newest_saves_are_found, runs_end_with_saves, saved_blocks_are_read,
-    saved_states_are_resumed, saves_are_found_on_what_is_left,
+    newest_saves_are_found, runs_end_with_saves, saved_states_are_resumed,
+    saves_are_found_on_what_is_left,
 };
 use dg_run::{Status, run};
 use std::alloc::Global;
@@ -33,9 +31,8 @@ pub fn replays_leave_saves<R: Rack>()
     ensures { (end : R) (before now : Counts) (images bytes : ℕ → Option (List ℕ)) (events : List Event) (replies : List Reply) (number : ℕ)
         → (ran : Ran before now images bytes (R.tells end) (events ++ Event.Save ∷ []) (replies ++ Reply.Saved number ∷ []))
         → IsToldAtEnd (R.tells end) ran
-        → EndsWithSave (Trace AreTold before events replies) number ran.final bytes }
+        → EndsWithSave (WasLed before events replies) number ran.final.state bytes }
 {
-    boundaries_stay_in_use();
     runs_end_with_saves();
 }
 
@@ -61,7 +58,7 @@ pub fn saved_arrays_go_on<R: Rack>()
         (event : Event) (reply : Reply) (ran : HasRun (R.tells end) facts event reply) → TellsArray (R.tells end) ran.source.saved.table
         → IsFoundAgain old number last held save facts.images facts.bytes
         → NoneRose facts.before.faults ran.opened.faults
-        → GoesOn old save facts.images facts.bytes facts.before facts.now (event ∷ []) (reply ∷ []) }
+        → IsAnswered old save facts.images facts.bytes facts.before facts.now event reply }
 {
     saves_are_found_on_what_is_left();
     newest_saves_are_found();
@@ -72,14 +69,12 @@ pub fn saved_arrays_go_on<R: Rack>()
 /// save, if it isn't gone.
 pub fn saved_blocks_are_read_again()
     ensures { (start : Counts) (done : List Event) (given : List Reply) (number : ℕ) (last : State) (held : ℕ → Option (List ℕ))
-        (end : EndsWithSave (Trace AreTold start done given) number last held) (images bytes : ℕ → Option (List ℕ)) (before now : Counts)
+        (end : EndsWithSave (WasLed start done given) number last held) (images bytes : ℕ → Option (List ℕ)) (before now : Counts)
         (front rest : List Event) (b : ℕ) (replies : List Reply)
         → IsFoundAgain end.old number last held end.save images bytes → All IsReading front → b < end.old.table.shape.n
         → (on : GoesOn end.old end.save images bytes before now (front ++ Event.Read b ∷ rest) replies)
-        → GivesSaved end.old on.state front b replies }
-{
-    saved_blocks_are_read();
-}
+        → GivesSaved end.old (first_of on) front b replies }
+{}
 
 /// Resumes what is left. Where no count of faults rose, there is a saved array; and where all lines were done, it went on from the state that was
 /// saved.

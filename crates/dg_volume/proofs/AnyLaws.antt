@@ -74,7 +74,7 @@ module _ {S R : Type 0} (phase : phases.Ghosts S) (rack : Ghosts R) where
 
   pub same_later : (volume : Volume S R) (any : AnyPhase) → IsPhaseOf volume any → IsWell phase rack volume → IsSame phase any_phase rack volume (told_later volume any)
   same_later volume any h well = record {
-    leaves = record { well = well_still volume any h well; shape = refl; boundaries = refl; line = refl; rise = (rack_none rack (rack_of volume)).rise; tells = λ q told. told; told_before = λ q tells. tells; own = own_none rack (shape_of volume).b (rack_of volume); same_rack = refl };
+    leaves = record { well = well_still volume any h well; shape = refl; boundaries = refl; live = refl; line = refl; rise = (rack_none rack (rack_of volume)).rise; tells = λ q told. told; told_before = λ q tells. tells; own = own_none rack (shape_of volume).b (rack_of volume); same_rack = refl };
     stands = λ origin. stands_still volume any h;
     rack_is = refl;
     given_is = refl;

@@ -23,14 +23,20 @@ use Rattle.dg_store.specs.declared.store.Store.{Store}
 use Rattle.dg_volume.proofs.CommitSteps.{commit_goes, left_at, passes_at, saves_at}
 use Rattle.dg_volume.proofs.LabelLaws.{here_filling}
 use Rattle.dg_volume.proofs.UseLaws.{least_here}
+use Rattle.dg_volume.proofs.VolumeLaws.{leaves_none}
 use Rattle.dg_volume.specs.Commits.{CommitsArray, committed, left_on}
 use Rattle.dg_volume.specs.Copies.{StepsHot}
 use Rattle.dg_volume.specs.Regroups.{GoesOn}
+use Rattle.dg_volume.specs.Settles.{KeepsArray}
 use Rattle.dg_volume.specs.Volumes.{IsWell, Leaves, line_of, live_of, members_of, shape_of, state_of}
 use Rattle.dg_volume.specs.declared.phases.InPhase as phases
 use Rattle.dg_volume.specs.declared.volumes.Volume.{Volume}
 
 module _ {S R : Type 0} (phase : phases.Ghosts S) (rack : Ghosts R) where
+  -- nothing was done
+  pub untouched : (a : Volume S R) → IsWell phase rack a → Leaves phase phase rack a a × KeepsArray rack a a
+  untouched a well = (leaves_none phase rack a well, λ told V held. held)
+
   -- a save, and then calls behind it
   pub goes_behind : (a m b : Volume S R) → Leaves phase phase rack a m → GoesOn phase rack m b → GoesOn phase rack a b
   goes_behind a m b first second =

@@ -184,6 +184,7 @@ module _ {S R : Type 0} (phase : phases.Ghosts S) (rack : Ghosts R) where
           };
           shape = same_shape;
           boundaries = ap (λ (u : InUse). u.boundaries) h.in_use;
+          live = ap (λ (u : InUse). u.live.items) h.in_use;
           line = line;
           rise = h.moved.stays.stays.rise;
           tells = h.moved.stays.stays.tells;

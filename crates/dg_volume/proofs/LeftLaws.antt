@@ -1,7 +1,7 @@
 -- What is left of the homes of an array, of its boundaries in use and of its cut blocks without the lost boundaries.
 use Rattle.std.proofs.Common.{◌≡◌, ◌∙◌, ◌<◌, ◌≤◌, ◌+◌, ◌||◌, ◌⊎◌, ℕ, suc, Bool, true, false, cond, List, [], ◌∷◌, length, map, get_or, filter, not, inl, inr, refl, sym, ap, subst, arith}
 use Rattle.std.specs.Prelude.{◌^◌, All, IfSome, None, Option, Some, option_to_list}
-use Rattle.std.specs.List.{range_with_len}
+use Rattle.std.specs.List.{list_any, range_with_len}
 use Rattle.std.specs.List.Sorted.{IsStrictlyIncreasing}
 use Rattle.std.proofs.Math.ListN.{get_or-eq_default}
 use Rattle.std.proofs.lemmas.Bool.{and_parts, cases_Bool, cases_lt, false≢true}
@@ -11,6 +11,7 @@ use Rattle.std.proofs.lemmas.List.Concat.{flat_map-cons}
 use Rattle.std.proofs.lemmas.List.Elements.{All-append, All-cons, All-filter, All-nil, filter_passes}
 use Rattle.std.proofs.lemmas.List.FromFn.{get_or-map-range_with_len, get_or-range_with_len, length-map-range_with_len, length-range_with_len}
 use Rattle.std.proofs.lemmas.List.Filters.{length-filter_both}
+use Rattle.std.proofs.lemmas.List.Sums.{count_by-le-length, length-filter}
 use Rattle.dg_model.proofs.RegroupLaws.{left_ascend, place_at, rises, sites_of_left}
 use Rattle.dg_model.specs.Homes.{home_of}
 use Rattle.dg_model.specs.Lives.{boundary_at, left_of, place_in}
@@ -19,6 +20,7 @@ use Rattle.dg_model.specs.Members.{is_lost}
 use Rattle.dg_model.specs.Openings.{FitsReduced, Reduced}
 use Rattle.dg_model.specs.Regroups.{home_left, homes_left, is_left, moved_home, site_left, sites_left, table_left}
 use Rattle.dg_model.specs.Sites.{all_lost, has_site, is_gone}
+use Rattle.dg_model.specs.States.{has_lost}
 use Rattle.dg_model.specs.Tables.{Table, sites_in}
 use Rattle.dg_model.specs.declared.homes.Home.{Home}
 use Rattle.dg_model.specs.declared.members.MemberState.{MemberState}
@@ -97,6 +99,23 @@ left_few shape members =
       length-filter_both (λ x. not (is_lost members x)) (λ x. not (not (is_lost members x))) (λ x. refl) (range_with_len 0 shape.b),
       length-range_with_len 0 shape.b,
     )
+
+-- a list has fewer items without those that pass, where some item does
+filter_fewer : (p : ℕ → Bool) (xs : List ℕ) → list_any p xs ≡ true → length (filter (λ x. not (p x)) xs) < length xs
+filter_fewer p [] some = absurd (false≢true some)
+filter_fewer p (x ∷ xs) some = by_test (p x) refl (filter_fewer p xs)
+  where
+    by_test : (b : Bool) → p x ≡ b → (list_any p xs ≡ true → length (filter (λ y. not (p y)) xs) < length xs) → length (filter (λ y. not (p y)) (x ∷ xs)) < suc (length xs)
+    by_test true out more =
+        let same = ap (λ (b : Bool). length (cond (not b) (x ∷ filter (λ y. not (p y)) xs) (filter (λ y. not (p y)) xs))) out in
+        omega (arith, same, length-filter (λ y. not (p y)) xs, count_by-le-length (λ y. not (p y)) xs)
+    by_test false stays more =
+        let same = ap (λ (b : Bool). length (cond (not b) (x ∷ filter (λ y. not (p y)) xs) (filter (λ y. not (p y)) xs))) stays in
+        omega (arith, same, more (sym (ap (λ (b : Bool). b || list_any p xs) stays) ∙ some))
+
+-- there are fewer where a boundary is lost
+pub left_fewer : (shape : Shape) (members : ℕ → MemberState) → has_lost shape members ≡ true → length (left_of shape members) < shape.b
+left_fewer shape members lost = let fewer = filter_fewer (is_lost members) (range_with_len 0 shape.b) lost in omega (arith, fewer, length-range_with_len 0 shape.b)
 
 -- a lost one isn't left
 lost_out : (shape : Shape) (members : ℕ → MemberState) (s : ℕ) → is_lost members s ≡ true → is_left (left_of shape members) s ≡ false

@@ -101,6 +101,7 @@ module _ {S R : Type 0} (phase : phases.Ghosts S) (rack : Ghosts R) where
         };
         shape = shape;
         boundaries = ap (λ (u : InUse). u.boundaries) h.in_use;
+        live = ap (λ (u : InUse). u.live.items) h.in_use;
         line = line_moved a b h;
         rise = h.array.stays.stays.rise;
         tells = h.array.stays.stays.tells;

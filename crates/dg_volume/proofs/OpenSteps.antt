@@ -7,6 +7,10 @@ use Rattle.std.proofs.lemmas.List.Elements.{All-nil, All-weaker}
 use Rattle.dg_infer.specs.Meanings.{KeptInference}
 use Rattle.dg_infer.specs.Meanings as inferences
 use Rattle.dg_io.specs.MadeLaws.{same_both}
+use Rattle.dg_io.specs.Makes.{Makes}
+use Rattle.dg_io.specs.MakesLaws.{makes_both, makes_such}
+use Rattle.dg_io.specs.RackCalls.{RackCall}
+use Rattle.dg_io.specs.RackCalls.RackCall.{looks, blanks, calls}
 use Rattle.dg_io.specs.Told.{IsSame, Told, Torn}
 use Rattle.dg_io.specs.declared.outside.Rack.{Ghosts}
 use Rattle.dg_label.specs.Labels.{HasLength, IsLabeled, StandsLabeled}
@@ -37,8 +41,9 @@ use Rattle.dg_model.specs.declared.sites.Site.{Site}
 use Rattle.dg_model.specs.declared.wants.Want.{Want}
 use Rattle.dg_model.specs.declared.wants.Want.TheVariants.{File, Kept, Stray}
 use Rattle.dg_open.specs.Founds.{AreRead, IsBodyRead, IsRead}
-use Rattle.dg_open.specs.Reopenings.{HasReopened, opened_label}
+use Rattle.dg_open.specs.Reopenings.{HasReopened, IsCallOfOpening, opened_label}
 use Rattle.dg_open.specs.declared.reopens.Reopened.{Reopened}
+use Rattle.dg_pair.specs.Calls.{IsCallOf}
 use Rattle.dg_save.specs.States as saves
 use Rattle.dg_store.specs.Leaves.{RackStays}
 use Rattle.dg_store.specs.Stores.{TellsAll}
@@ -464,6 +469,20 @@ module _ (one : OneOwner) (none : NoSystem) {R : Type 0} (rack : Ghosts R) (befo
         told_before = λ q told. found.leaves.told_before q (keeps.told_before q told);
       }
 
+  -- the labels and bodies were read, and then blocks of the array
+  opening_calls : Makes rack IsCallOfOpening before (rack_of volume)
+  opening_calls =
+      makes_both rack IsCallOfOpening before (stores.rack_of start) (rack_of volume) found.leaves.made
+      (makes_such rack (IsCallOf (stores.members_of start)) IsCallOfOpening of_opening (stores.rack_of start) (rack_of volume) made.reads.reads.keeps.called)
+    where
+      of_opening : (call : RackCall) → IsCallOf (stores.members_of start) call → IsCallOfOpening call
+      of_opening (looks q) is = absurd is
+      of_opening (blanks q) is = absurd is
+      of_opening (calls q) is = elim (cases_lt q 32) [
+        | inl low ↦ low
+        | inr high ↦ let few = found.sound.table.shape.most_boundaries in absurd (is (found.sound.others q (omega (arith, high, few))))
+      ]
+
   in_use_all : FitsReduced (table_of volume) (reduced_of volume)
   in_use_all =
       let all : all_in_use (shape_of volume) ≡ reduced_of volume = λ i. record { boundaries = sym made.boundaries i; live = sym made.live i; cut = sym made.cut i } in
@@ -620,6 +639,7 @@ module _ (one : OneOwner) (none : NoSystem) {R : Type 0} (rack : Ghosts R) (befo
     writes = made.reads.reads.writes ∙ found.leaves.writes;
     beside = λ q. subst (λ (s : Shape). Told (Torn 512 ((s.k + 1) * s.l)) (rack.bytes before q) (rack.bytes (rack_of volume) q)) (sym made.reads.reads.keeps.shape)
         (torn_on _ (rack.bytes before q) (rack.bytes (stores.rack_of start) q) (rack.bytes (rack_of volume) q) (found.leaves.same q) (made.reads.reads.keeps.beside q));
+    made = opening_calls;
     taken = found.taken;
     read = read_before;
     source = found.source;

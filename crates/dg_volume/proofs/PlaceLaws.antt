@@ -148,18 +148,6 @@ fits_written old new reduced b shape within sited fits = record {
 
 -- ---- all boundaries
 
-range_push : (a n : ℕ) → range_with_len a (suc n) ≡ range_with_len a n ++ (a + n) ∷ []
-range_push a zero = ap (λ (k : ℕ). k ∷ []) (omega arith)
-range_push a (suc n) =
-    let place : (a + 1) + n ≡ a + suc n = omega arith in
-    ap (λ (xs : List ℕ). a ∷ xs) (range_push (a + 1) n ∙ ap (λ (k : ℕ). range_with_len (a + 1) n ++ k ∷ []) place)
-
-pub all_more : (n : ℕ) (numbers : List ℕ) → numbers ≡ all_live n ++ n ∷ [] → numbers ≡ all_live (n + 1)
-all_more n numbers is =
-    let end : 0 + n ≡ n = omega arith in
-    let next : suc n ≡ n + 1 = omega arith in
-    is ∙ sym (ap (λ (k : ℕ). all_live n ++ k ∷ []) end) ∙ sym (range_push 0 n) ∙ ap all_live next
-
 all_ascend : (b : ℕ) → IsStrictlyIncreasing (all_live b)
 all_ascend b k low =
     let size = length-range_with_len 0 b in

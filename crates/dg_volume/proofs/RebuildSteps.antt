@@ -344,7 +344,7 @@ module _ {S R : Type 0} (phase : phases.Ghosts S) (rack : Ghosts R) where
         }
 
     leaves_passed : Leaves phase phase rack a b
-    leaves_passed = record { well = well_passed; shape = same_shape; boundaries = ap (λ (u : InUse). u.boundaries) h.beside.in_use; line = line_same a b (ap (λ (u : InUse). u.long) h.beside.in_use) same_shape; rise = passed.slots.stays.stays.rise; tells = passed.slots.stays.stays.tells; told_before = passed.slots.stays.stays.told_before; own = passed.slots.stays.own; same_rack = passed.slots.stays.stays.same_rack }
+    leaves_passed = record { well = well_passed; shape = same_shape; boundaries = ap (λ (u : InUse). u.boundaries) h.beside.in_use; live = ap (λ (u : InUse). u.live.items) h.beside.in_use; line = line_same a b (ap (λ (u : InUse). u.long) h.beside.in_use) same_shape; rise = passed.slots.stays.stays.rise; tells = passed.slots.stays.stays.tells; told_before = passed.slots.stays.stays.told_before; own = passed.slots.stays.own; same_rack = passed.slots.stays.stays.same_rack }
 
     told_before : {P : Type 0} → Known P rack b → Known P rack a
     told_before known = (λ q below. passed.slots.stays.stays.told_before q (known.0 q (subst (λ (x : Shape). q / 2 < x.b) (sym same_shape) below)), known.1)

@@ -40,7 +40,7 @@ use Rattle.dg_store.specs.declared.store.Store.{Store}
 use Rattle.dg_volume.proofs.BlankLaws.{no_homes}
 use Rattle.dg_volume.proofs.FaultLaws.{array_outs, array_tells, keeps_outs, keeps_tells, stays_by}
 use Rattle.dg_volume.proofs.LabelLaws.{keeps_label, labeled_kept, relabels_opened, relabels_read}
-use Rattle.dg_volume.proofs.LeftLaws.{fits_left, homes_few, homes_fit}
+use Rattle.dg_volume.proofs.LeftLaws.{fits_left, homes_few, homes_fit, left_fewer}
 use Rattle.dg_volume.proofs.MoveSteps.{loose_not_settled, loose_not_worn}
 use Rattle.dg_volume.proofs.VolumeLaws.{IsBeside, Keeps, Labels, kept_state, leaves, leaves_none, line_kept, lost_on, on_label, read_state, reads_in, reads_stay, same_in, shape_kept, stays, steps_from, still_in, told_before, under_by}
 use Rattle.dg_volume.proofs.VolumeSteps.{read_none}
@@ -319,6 +319,14 @@ module _ {R : Type 0} (rack : Ghosts R) where
           let first : line_of f ≡ line_of m = λ i. record (shape_f i) { b = long i } in
           first ∙ line_kept any_phase rack a m keeps_mid
 
+      -- ---- its boundaries
+
+      live_left : live_of f ≡ map (boundary_at (live_of m)) left
+      live_left = ap (λ (u : InUse). u.live.items) h.in_use ∙ h.out.live_is
+
+      live_taken : live_of f ≡ map (boundary_at (live_of a)) left
+      live_taken = live_left ∙ ap (λ (u : InUse). map (boundary_at u.live.items) left) h.unsealed.beside.in_use
+
       -- ---- its label
 
       labeled_mid : IsLabeled rack (line_of a) m.store m.label
@@ -430,13 +438,12 @@ module _ {R : Type 0} (rack : Ghosts R) where
         }
         rest_cut rest V =
             let bounds : f.in_use.boundaries ≡ m.in_use.boundaries = ap (λ (u : InUse). u.boundaries) h.in_use ∙ h.out.boundaries_are in
-            let live : live_of f ≡ map (boundary_at (live_of m)) left = ap (λ (u : InUse). u.live.items) h.in_use ∙ h.out.live_is in
             let cut = ap (λ (u : InUse). u.cut.items) h.in_use ∙ h.out.cut_is in
             let table = h.read.reads.table ∙ h.out.array.table in
             let homes = h.homes ∙ h.out.homes_are in
             let copies = h.copies ∙ h.out.copies_are in
             let told = phase_is b.store f.store b.pending.items f.phase phase in
-            λ i. record (last_state rest V) { boundaries = bounds i; live = live i; cut = cut i; table = table i; homes = homes i; copies = copies i; phase = told i }
+            λ i. record (last_state rest V) { boundaries = bounds i; live = live_left i; cut = cut i; table = table i; homes = homes i; copies = copies i; phase = told i }
 
         regroups : {P : Type 0} → (rest : State) (V : List (List ℕ)) → StandsUnder rack a rest.label → (Known P rack a → StandsFor any_phase rack a V)
             → Regroups (Known (WasTold P m.store) rack f) (state_of any_phase rack a rest V) (lost_count m) (gone_count m) (last_state rest V)
@@ -477,16 +484,19 @@ module _ {R : Type 0} (rack : Ghosts R) where
         leaves = h.out.array.leaves;
         rest = h.out.array.rest;
         below = h.out.array.below;
+        bits = h.out.bits;
+        fewer = left_fewer (shape_of m) (members_of m) (open_lost a m h.unsealed);
         read = stays_by rack b.store f.store h.read.reads.keeps;
       }
 
       -- after want of memory
       pub left_kept : KeepsLeft rack boundaries dropped a f
-      left_kept = record { out = takes_out; stands = λ was told V held. held_f V held }
+      left_kept = record { out = takes_out; live_is = live_taken; stands = λ was told V held. held_f V held }
 
       pub regrouped : IsPhaseLeft rack b.store f.store b.pending.items f.phase → IsRegrouped rack boundaries dropped (lost_count m) (gone_count m) a f
       regrouped phase = record {
         out = takes_out;
+        live_is = live_taken;
         given_is = h.given_is ∙ h.out.given_is ∙ h.unsealed.given_is;
         steps = λ origin state st.
             subst (λ (s : State). (next : State) × StandsIn any_phase rack (WasHeld rack (told_in m.store origin)) f next

@@ -190,6 +190,7 @@ module _ {S R : Type 0} (phase : phases.Ghosts S) (rack : Ghosts R) where
       well = saved_well well labeled;
       shape = shape;
       boundaries = refl;
+      live = refl;
       line = line;
       rise = keeps.stays.stays.rise;
       tells = keeps.stays.stays.tells;

@@ -205,6 +205,6 @@ module _ {S T R : Type 0} (from : phases.Ghosts S) (to : phases.Ghosts T) (rack 
     pub goes_settled : given_of b ≡ given_of a → GoesBy from to rack a Settle SettledReply (in_phase b phase)
     goes_settled given = record {
       given_is = given;
-      leaves = record { well = settled_well; shape = left.shape; boundaries = left.boundaries; line = left.line; rise = left.rise; tells = left.tells; told_before = left.told_before; own = left.own; same_rack = left.same_rack };
+      leaves = record { well = settled_well; shape = left.shape; boundaries = left.boundaries; live = left.live; line = left.line; rise = left.rise; tells = left.tells; told_before = left.told_before; own = left.own; same_rack = left.same_rack };
       steps = settled_steps;
     }

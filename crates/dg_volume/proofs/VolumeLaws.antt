@@ -140,7 +140,7 @@ module _ {S R : Type 0} (phase : phases.Ghosts S) (rack : Ghosts R) where
       }
 
   pub leaves : (a b : Volume S R) → IsWell phase rack a → Keeps a b → Leaves phase phase rack a b
-  leaves a b well keeps = record { well = well_on a b well keeps; shape = shape_kept a b keeps; boundaries = ap (λ (u : InUse). u.boundaries) keeps.beside.in_use; line = line_kept a b keeps; rise = keeps.rise; tells = keeps.tells; told_before = keeps.told_before; own = keeps.own; same_rack = keeps.same_rack }
+  leaves a b well keeps = record { well = well_on a b well keeps; shape = shape_kept a b keeps; boundaries = ap (λ (u : InUse). u.boundaries) keeps.beside.in_use; live = ap (λ (u : InUse). u.live.items) keeps.beside.in_use; line = line_kept a b keeps; rise = keeps.rise; tells = keeps.tells; told_before = keeps.told_before; own = keeps.own; same_rack = keeps.same_rack }
 
   -- no call was made
   pub leaves_none : (a : Volume S R) → IsWell phase rack a → Leaves phase phase rack a a
@@ -148,6 +148,7 @@ module _ {S R : Type 0} (phase : phases.Ghosts S) (rack : Ghosts R) where
     well = well;
     shape = refl;
     boundaries = refl;
+    live = refl;
     line = refl;
     rise = (rack_none rack (rack_of a)).rise;
     tells = λ q told. told;

@@ -51,7 +51,7 @@ use Rattle.dg_volume.proofs.VolumeLaws.{IsBeside, Keeps, Labels, kept_state, lab
 use Rattle.dg_volume.specs.Origins.{WasHeld}
 use Rattle.dg_volume.specs.Faults.{OutsStay, TellsFaults}
 use Rattle.dg_volume.specs.Seals.{FallsOn, HasStoredBlock, Relabels, opening_calls}
-use Rattle.dg_volume.specs.Volumes.{FitsArray, HasLabel, IsWell, Known, Leaves, StandsFor, StandsIn, StandsUnder, Tells, cut_of, given_of, line_of, marks_by, marks_of, members_of, rack_of, reduced_of, shape_of, state_of, table_of}
+use Rattle.dg_volume.specs.Volumes.{FitsArray, HasLabel, IsWell, Known, Leaves, StandsFor, StandsIn, StandsUnder, Tells, cut_of, given_of, line_of, live_of, marks_by, marks_of, members_of, rack_of, reduced_of, shape_of, state_of, table_of}
 use Rattle.dg_volume.specs.Writes.{IsFollowed, RereadsFew, WritesTo}
 use Rattle.dg_volume.specs.declared.in_use.InUse.{InUse}
 use Rattle.dg_volume.specs.declared.phases.InPhase as phases
@@ -190,6 +190,7 @@ module _ {S T R : Type 0} (from : phases.Ghosts S) (to : phases.Ghosts T) (rack 
     pub same_rack : rack.name (rack_of c) ≡ rack.name (rack_of a)
     pub levels : c.levels.fragment ≡ a.levels.fragment
     pub boundaries : c.in_use.boundaries ≡ a.in_use.boundaries
+    pub live : live_of c ≡ live_of a
     pub line : line_of c ≡ line_of a
     pub homes : c.homes ≡ a.homes
     pub copies : AreHomes (shape_of a) c.copies
@@ -220,6 +221,7 @@ module _ {S T R : Type 0} (from : phases.Ghosts S) (to : phases.Ghosts T) (rack 
     };
     shape = h.shape;
     boundaries = h.boundaries;
+    live = h.live;
     line = h.line;
     rise = h.rise;
     tells = h.tells;
@@ -330,6 +332,7 @@ module _ {S T R : Type 0} (from : phases.Ghosts S) (to : phases.Ghosts T) (rack 
         own = own_then rack a.store m c.store h.array.first.stays.shape h.array.first.stays.own h.array.reads.keeps.own;
         same_rack = h.array.reads.keeps.stays.same_rack ∙ h.array.first.stays.stays.same_rack;
         boundaries = h.boundaries;
+        live = λ i. (h.live i).items;
         line = line_written a b block m c h;
         levels = h.levels;
         homes = h.homes;
@@ -547,6 +550,7 @@ module _ {S T R : Type 0} (from : phases.Ghosts S) (to : phases.Ghosts T) (rack 
         same_rack = falls.stays.stays.same_rack;
         levels = levels;
         boundaries = ap (λ (u : InUse). u.boundaries) in_use;
+        live = ap (λ (u : InUse). u.live.items) in_use;
         line = line;
         homes = homes;
         copies = subst (λ (x : List Home). AreHomes (shape_of a) x) (sym copies) (no_homes (shape_of a));
@@ -560,10 +564,10 @@ module _ {S T R : Type 0} (from : phases.Ghosts S) (to : phases.Ghosts T) (rack 
       })
 
   -- behind a write: a loose volume is left
-  pub loosened_leaves : (a : Volume S R) (m : Store R) (kept now : KeptInference) (c : Volume T R) → IsWell from rack a → FitsReduced (table_of c) (reduced_of c) → c.in_use.boundaries ≡ a.in_use.boundaries → c.in_use.long ≡ a.in_use.long → FallsOn rack a.store m → IsSound rack c.store → ReadsOn rack m c.store
+  pub loosened_leaves : (a : Volume S R) (m : Store R) (kept now : KeptInference) (c : Volume T R) → IsWell from rack a → FitsReduced (table_of c) (reduced_of c) → c.in_use.boundaries ≡ a.in_use.boundaries → live_of c ≡ live_of a → c.in_use.long ≡ a.in_use.long → FallsOn rack a.store m → IsSound rack c.store → ReadsOn rack m c.store
       → c.levels.fragment ≡ a.levels.fragment → c.homes ≡ a.homes → c.copies ≡ [] → from.kept a.phase ≡ Some kept → to.kept c.phase ≡ Some now → to.phase c.phase ≡ LoosePhase
       → (now.l ≡ kept.l) × (now.n ≡ kept.n) → length now.pending ≡ length kept.pending → Labels rack a c → Leaves from to rack a c
-  loosened_leaves a m kept now c well in_use bounds same first sound reads levels homes copies had has loose size room labels =
+  loosened_leaves a m kept now c well in_use bounds live same first sound reads levels homes copies had has loose size room labels =
       let fitted : FitsArray (shape_of a) kept = subst (λ (o : Option KeptInference). IfSome o (FitsArray (shape_of a))) had well.inferred in
       left_leaves from to rack a c well (record {
         sound = sound;
@@ -574,6 +578,7 @@ module _ {S T R : Type 0} (from : phases.Ghosts S) (to : phases.Ghosts T) (rack 
         own = own_then rack a.store m c.store first.stays.shape first.stays.own reads.keeps.own;
         same_rack = reads.keeps.stays.same_rack ∙ first.stays.stays.same_rack;
         boundaries = bounds;
+        live = live;
         line = line_same a c same (reads.keeps.shape ∙ first.stays.shape);
         levels = levels;
         homes = homes;

@@ -2,6 +2,7 @@
 use Rattle.std.specs.Prelude.{◌≡◌, ◌⊎◌, ◌+◌, ◌/◌, ◌<◌, ◌≤◌, ℕ, Bool, true, false, List, Option, Some, None, replicate}
 use Rattle.dg_infer.specs.Meanings.{KeptInference}
 use Rattle.dg_infer.specs.Meanings as inferences
+use Rattle.dg_io.specs.Makes.{Makes}
 use Rattle.dg_io.specs.Told.{IsSame, Told}
 use Rattle.dg_io.specs.declared.outside.Rack.{Ghosts}
 use Rattle.dg_model.specs.Lives.{all_live}
@@ -17,7 +18,7 @@ use Rattle.dg_model.specs.declared.members.MemberState.TheVariants.{Good, Out}
 use Rattle.dg_model.specs.declared.phases.Phase.TheVariants.{Settled as SettledPhase}
 use Rattle.dg_model.specs.declared.wants.Want.{Want}
 use Rattle.dg_open.specs.Founds.{AreRead}
-use Rattle.dg_open.specs.Reopenings.{FindsNoState, FindsUnclean}
+use Rattle.dg_open.specs.Reopenings.{FindsNoState, FindsUnclean, IsCallOfOpening}
 use Rattle.dg_open.specs.declared.reopens.Reopened.{Reopened}
 use Rattle.dg_pair.specs.Calls.{KeepsBeside}
 use Rattle.dg_save.specs.States as saves
@@ -112,16 +113,17 @@ abbrev pub had : Option (List ℕ) → Option (List ℕ) → Option (List ℕ)
 had before None = None
 had before (Some now) = before
 
--- What was opened of a rack: its members were read as they stood before; nothing was written, and the bytes beside the slots stay; and
--- this is the volume. `first` says what members did before blocks were read: one was good only where it may be. Of each list of blocks the
--- volume is in a state that the model opens, the content of which is known where these held the blocks before. (Two members that were good
--- at first may hold other blocks, and then no content is known.)
+-- What was opened of a rack: its members were read as they stood before; nothing was written, the bytes beside the slots stay, and only
+-- members 0 to 31 were called; and this is the volume. `first` says what members did before blocks were read: one was good only where it
+-- may be. Of each list of blocks the volume is in a state that the model opens, the content of which is known where these held the blocks
+-- before. (Two members that were good at first may hold other blocks, and then no content is known.)
 pub record HasOpened {R : Type 0} (rack : Ghosts R) (before : R) (volume : Volume AnyPhase R) (hot : List ℕ) : Type 0 where
   pub well : IsWell any_phase rack volume
   pub given_is : given_of volume ≡ None
   pub stays : RackStays rack before (rack_of volume)
   pub writes : (rack.counts (rack_of volume)).writes ≡ (rack.counts before).writes
   pub beside : KeepsBeside (shape_of volume).l ((shape_of volume).k + 1) (rack.bytes before) (rack.bytes (rack_of volume))
+  pub made : Makes rack IsCallOfOpening before (rack_of volume)
   pub taken : ℕ → Option Found
   pub read : AreRead (λ q. had (rack.bytes before q) (rack.bytes (rack_of volume) q)) (rack.counts before).faults (rack.counts (rack_of volume)).faults taken
   pub source : ℕ

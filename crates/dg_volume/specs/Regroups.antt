@@ -1,6 +1,6 @@
 -- What going on without lost boundaries leaves of a volume.
-use Rattle.std.specs.Prelude.{◌≡◌, ◌⊎◌, ◌≤◌, ◌+◌, ℕ, Bool, true, List, [], Some, length, map}
-use Rattle.dg_io.specs.Reduced.{LeavesLeft}
+use Rattle.std.specs.Prelude.{◌≡◌, ◌⊎◌, ◌<◌, ◌≤◌, ◌+◌, ℕ, Bool, true, List, [], Some, length, map}
+use Rattle.dg_io.specs.Reduced.{LeavesLeft, places_left}
 use Rattle.dg_io.specs.declared.outside.Rack.{Ghosts}
 use Rattle.dg_label.specs.Lefts.{KeepsLeft as KeepsLabelLeft}
 use Rattle.dg_model.specs.Lives.{boundary_at}
@@ -27,7 +27,7 @@ use Rattle.dg_volume.specs.Origins.{Origin, WasHeld}
 use Rattle.dg_volume.specs.Origins.Origin.{told}
 use Rattle.dg_volume.specs.Phases.{kept_in, phase_in}
 use Rattle.dg_volume.specs.Settles.{GoesBy, KeepsArray}
-use Rattle.dg_volume.specs.Volumes.{IsWell, Known, StandsIn, Tells, any_phase, cut_of, given_of, line_of, live_of, marks_of, members_of, rack_of, shape_of, table_of}
+use Rattle.dg_volume.specs.Volumes.{IsWell, Known, Leaves, StandsIn, Tells, any_phase, cut_of, given_of, line_of, live_of, marks_of, members_of, rack_of, shape_of, table_of}
 use Rattle.dg_volume.specs.declared.phases.AnyPhase.{AnyPhase}
 use Rattle.dg_volume.specs.declared.phases.AnyPhase.TheVariants.{Loose, Settled, Worn}
 use Rattle.dg_volume.specs.declared.phases.InPhase as phases
@@ -71,9 +71,14 @@ pub record AreRemains {R : Type 0} (store : Store R) (homes copies : List Home) 
 abbrev pub gone_of : {S R : Type 0} → Volume S R → ℕ → Bool
 gone_of volume = is_gone (table_of volume) (members_of volume)
 
+-- The bits of the lost boundaries leave those that aren't lost.
+abbrev pub AreBitsLeft : {R : Type 0} → Store R → Type 0
+AreBitsLeft store = places_left (lost_bits (stores.members_of store) (stores.shape_of store).b) (stores.shape_of store).b ≡ left_in store
+
 -- A volume without the lost boundaries: the blocks that stood on them alone are cut, and no more pending. It is loose, by what remains.
 pub record IsTakenOut {R : Type 0} (rack : Ghosts R) (boundaries : R → ℕ) (dropped : R → ℕ → R → Type 0) (remains : Remains) (old new : Volume AnyPhase R) : Type 0 where
   pub array : IsReduced rack boundaries dropped old.store new.store
+  pub bits : AreBitsLeft old.store
   pub phase_is : phase_in new.phase ≡ LoosePhase
   pub kept_is : kept_in new.phase ≡ Some remains.blank
   pub pending_is : new.pending.items ≡ unmarked (gone_of old) (marks_of any_phase old)
@@ -111,6 +116,8 @@ pub record TakesOut {R : Type 0} (rack : Ghosts R) (boundaries : R → ℕ) (dro
   pub leaves : LeavesLeft rack (left_in mid) (stores.rack_of mid) (stores.rack_of left)
   pub rest : boundaries (stores.rack_of left) + (stores.shape_of mid).b ≡ boundaries (stores.rack_of mid) + (stores.shape_of left).b
   pub below : dropped (stores.rack_of mid) (lost_bits (stores.members_of mid) (stores.shape_of mid).b) (stores.rack_of left)
+  pub bits : AreBitsLeft mid
+  pub fewer : length (left_in mid) < (stores.shape_of mid).b
   pub read : Stays rack left new
 
 -- What the content of later steps rests on: what it rested on before, and that all members of the array told their bytes, those of the boundaries
@@ -121,6 +128,7 @@ told_in mid origin = told (stores.shape_of mid).b (stores.rack_of mid) origin
 -- Boundaries were taken out of use, and blocks with them. Whichever state the volume was in, it made the step of that.
 pub record IsRegrouped {R : Type 0} (rack : Ghosts R) (boundaries : R → ℕ) (dropped : R → ℕ → R → Type 0) (r c : ℕ) (old new : Volume AnyPhase R) : Type 0 where
   pub out : TakesOut rack boundaries dropped old.store new.store
+  pub live_is : live_of new ≡ map (boundary_at (live_of old)) (left_in out.mid)
   pub given_is : given_of new ≡ given_of old
   pub steps : (origin : Origin R) (state : State) → StandsIn any_phase rack (WasHeld rack origin) old state →
       (next : State) × StandsIn any_phase rack (WasHeld rack (told_in out.mid origin)) new next
@@ -135,9 +143,11 @@ AnswersRegroup rack boundaries dropped old new (Regrouped r c) = IsRegrouped rac
 -- The array stands for what it stood for, but that the blocks which were cut are zeros, where each member told its bytes.
 pub record KeepsLeft {R : Type 0} (rack : Ghosts R) (boundaries : R → ℕ) (dropped : R → ℕ → R → Type 0) (old new : Volume AnyPhase R) : Type 0 where
   pub out : TakesOut rack boundaries dropped old.store new.store
+  pub live_is : live_of new ≡ map (boundary_at (live_of old)) (left_in out.mid)
   pub stands : TellsAll rack out.mid → Tells rack new → (V : List (List ℕ)) → stores.StandsFor rack old.store V
       → stores.StandsFor rack new.store (blocks_left (stores.table_of out.mid) (stores.members_of out.mid) V)
 
 -- after want of memory: the array is as it was, or boundaries were taken out of use
 abbrev pub KeepsOrLeaves : {R : Type 0} → Ghosts R → (R → ℕ) → (R → ℕ → R → Type 0) → Volume AnyPhase R → Volume AnyPhase R → Type 0
-KeepsOrLeaves rack boundaries dropped old new = KeepsArray rack old new ⊎ KeepsLeft rack boundaries dropped old new
+KeepsOrLeaves rack boundaries dropped old new =
+    (Leaves any_phase any_phase rack old new × KeepsArray rack old new) ⊎ KeepsLeft rack boundaries dropped old new

@@ -192,12 +192,13 @@ pub record IsWell {S R : Type 0} (phase : phases.Ghosts S) (rack : Ghosts R) (vo
   pub worn : phase.phase volume.phase ≡ WornPhase → has_lost (shape_of volume) (members_of volume) ≡ true
   pub settled : phase.phase volume.phase ≡ SettledPhase → IsInPlace (table_of volume) (phase.kept volume.phase) volume.homes volume.copies
 
--- What any call leaves: a volume of the same array with which all is well, of the same first line, whose members are as long, over the same rack, of
--- which no count fell, what that tells it told before, and calls were made on members of the array alone.
+-- What any call leaves: a volume of the same array with which all is well, of the same first line and the same boundaries in use, whose members are
+-- as long, over the same rack, of which no count fell, what that tells it told before, and calls were made on members of the array alone.
 pub record Leaves {S T R : Type 0} (from : phases.Ghosts S) (to : phases.Ghosts T) (rack : Ghosts R) (old : Volume S R) (new : Volume T R) : Type 0 where
   pub well : IsWell to rack new
   pub shape : shape_of new ≡ shape_of old
   pub boundaries : new.in_use.boundaries ≡ old.in_use.boundaries
+  pub live : live_of new ≡ live_of old
   pub line : line_of new ≡ line_of old
   pub rise : CountsRise (rack.counts (rack_of old)) (rack.counts (rack_of new))
   pub tells : StillTold (rack.bytes (rack_of old)) (rack.bytes (rack_of new))

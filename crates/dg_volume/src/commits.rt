@@ -12,7 +12,7 @@ ghost use Rattle.dg_volume.specs.Commits.{AreGoodBits, CannotSave, Commits, Comm
 ghost use Rattle.dg_volume.specs.Copies.{StepsHot};
 ghost use Rattle.dg_volume.specs.Regroups.{GoesOn};
 ghost use Rattle.dg_volume.specs.Settles.{KeepsArray};
-ghost use Rattle.dg_volume.specs.Volumes.{IsWell, given_of, rack_of, shape_of};
+ghost use Rattle.dg_volume.specs.Volumes.{IsWell, Leaves, given_of, rack_of, shape_of};
 
 use crate::left_lists::has_good;
 use crate::phases::InPhase;
@@ -208,7 +208,7 @@ impl<S: InPhase, R: Checkpoint> Volume<S, R> {
         if self.store.room().is_some() {
             return false;
         }
-        self.in_use.live.len() < self.in_use.boundaries as usize
+        self.is_reduced()
     }
 
     /// Saves the state of the array, and where the rack keeps a checkpoint makes it the one that is kept. Where no member is good behind that,
@@ -219,7 +219,7 @@ impl<S: InPhase, R: Checkpoint> Volume<S, R> {
         ensures steps { IfOk result (λ answer. StepsHot S.InPhase S.InPhase R.Rack hot.now self.old Event.Save (checkpoint_reply answer) self.new) }
         ensures not_saved { IfOk result (λ answer. (answer ≡ CheckpointAnswer.NotSaved) ↔ CannotSave R.room_of self.old) }
         ensures kept { IfOk result (KeepsBy S.InPhase R.Rack R.room_of self.old self.new) }
-        ensures err { OnErr result (KeepsArray R.Rack self.old self.new) }
+        ensures err { OnErr result (Leaves S.InPhase S.InPhase R.Rack self.old self.new × KeepsArray R.Rack self.old self.new) }
         ensures given { given_of self.new ≡ given_of self.old }
     {
         if self.cannot_save() {

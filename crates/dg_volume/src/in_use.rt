@@ -5,6 +5,7 @@ ghost use Rattle.dg_model.specs.Lives.{all_live, boundary_at, place_in};
 ghost use Rattle.dg_model.specs.Marks.{is_marked};
 
 use dg_model::{NoMemory, Shape};
+use dg_regroup::numbers_below;
 use std::alloc::Global;
 
 /// Which boundaries of the array's first line are in use, and which blocks were cut. The calls below name boundaries by their places
@@ -19,19 +20,6 @@ pub(crate) struct InUse {
     pub(crate) live: Vec<u8>,
     /// A mark for each block: whether it was cut.
     pub(crate) cut: Vec<bool>,
-}
-
-/// The numbers below one.
-fn numbers_below(alloc: Global, count: u8) -> Result<Vec<u8>, NoMemory>
-    ensures { IfOk result (λ numbers. numbers.items ≡ all_live count) }
-{
-    let mut numbers = Vec::new(alloc);
-    for number in 0..count {
-        let Ok(()) = numbers.push(number) else {
-            return Err(NoMemory);
-        };
-    }
-    Ok(numbers)
 }
 
 impl InUse {

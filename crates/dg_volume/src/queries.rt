@@ -1,5 +1,5 @@
 // What is told of a volume without a call on its rack.
-ghost use Rattle.std.specs.Prelude.{◌≡◌, ◌<◌, ◌≤◌, ◌/◌, ◌+◌, ℕ, IfNone, IfSome, false, true, length};
+ghost use Rattle.std.specs.Prelude.{◌≡◌, ◌↔◌, ◌<◌, ◌≤◌, ◌/◌, ◌+◌, ℕ, IfNone, IfSome, false, true, length};
 ghost use Rattle.dg_model.specs.Marks.{is_marked};
 ghost use Rattle.dg_model.specs.Tables.{used_in};
 ghost use Rattle.dg_model.specs.declared.events.Event.{Event};
@@ -95,6 +95,20 @@ impl<S: InPhase, R: Rack> Volume<S, R> {
         ensures { result.now ≡ live_of self.now }
     {
         &self.in_use.live
+    }
+
+    /// Boundaries of the first line.
+    pub fn boundaries(&self) -> u8
+        ensures { result ≡ self.now.in_use.boundaries }
+    {
+        self.in_use.boundaries
+    }
+
+    /// Whether a boundary of the first line isn't in use.
+    pub fn is_reduced(&self) -> bool
+        ensures { (result ≡ true) ↔ (length (live_of self.now) < self.now.in_use.boundaries) }
+    {
+        self.in_use.live.len() < self.in_use.boundaries as usize
     }
 
     /// The numbers of the array, with as many boundaries as are in use.

@@ -107,6 +107,8 @@ fn settle_typed<R: Rack + Drop>(
     };
     assert_eq!(rt; settled.home(path), copied);
     assert_eq!(rt; settled.live(), b"\x00\x01\x02\x03".as_slice());
+    assert_eq!(rt; settled.boundaries(), 4);
+    assert!(rt; !settled.is_reduced());
     let AuditAnswer::Audited(findings) = settled.audit(alloc)? else {
         return Err("audit".into());
     };

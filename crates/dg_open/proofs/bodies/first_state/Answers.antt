@@ -1,7 +1,10 @@
 use Rattle.std.proofs.Common.{arith}
 use Rattle.dg_open.proofs.ReadLemmas.{reads_both}
-use Rattle.dg_open.proofs.TableLemmas.{fails_still, is_first, quiet_still, stands_still, walked_one}
+use Rattle.dg_open.proofs.TableLemmas.{fails_still, is_first, none_walked, quiet_still, stands_still, walked_one}
 use Rattle.dg_open.proofs.bodies.first_state.Goals as goal
+
+pub loop-member-init : goal.loop-member-init
+loop-member-init g c = none_walked g.R.Rack c.args.rack.now c.args.labels.now c.args.greatest c.args.failed.now c.requires.labeled c.requires.stand c.requires.none c.told-failed
 
 pub returns-in-Some-clause-leaves : goal.returns-in-Some-clause-leaves
 returns-in-Some-clause-leaves g c = reads_both g.R.Rack c.args.rack.now c.loop-member.rack c.state_at.new.rack c.loop-member.invariant.leaves c.in_ok-source.ensures.reads.leaves

@@ -1,5 +1,16 @@
-use Rattle.dg_open.proofs.TableLemmas.{none_has, one_clear, one_measured, one_quiet, one_seen, one_stands}
+use Rattle.std.proofs.Common.{◌∙◌, ℕ, ap, arith, refl}
+use Rattle.dg_io.specs.Commits.{is_marked}
+use Rattle.dg_open.proofs.TableLemmas.{none_has, none_quiet, none_seen, one_clear, one_measured, one_quiet, one_seen, one_stands}
 use Rattle.dg_open.proofs.labels.find_all.Goals as goal
+
+pub loop-member-init : goal.loop-member-init
+loop-member-init g c = record {
+  seen = none_seen g.R.Rack c.args.rack.now _ refl;
+  stand = λ q low some. absurd (omega (arith, low));
+  quiet = none_quiet g.R.Rack c.args.rack.now _;
+  measured = λ q low. absurd (omega (arith, low));
+  clear = λ q high. ap (λ (n : ℕ). is_marked n q) c.requires.none ∙ none_has q;
+}
 
 pub loop-member-preserved : goal.loop-member-preserved
 loop-member-preserved g c =

@@ -1,12 +1,13 @@
 use Rattle.std.proofs.Common.{◌≡◌, ◌≤◌, ◌+◌, ◌-◌, ◌^◌, length}
+use Rattle.dg_run.specs.Histories.{Continues}
 use Rattle.dg_run.specs.Inputs.{ahead}
-use Rattle.dg_run.specs.Steps.{GoesOn, shape_of}
+use Rattle.dg_run.specs.Steps.{shape_of}
 use Rattle.dg_run.proofs.Runs.{SoFar}
 use Rattle.dg_run.proofs.lines.serve_lines.Given as goal
 
 abbrev pub invariant-loop-passed : goal.invariant-loop-passed
 invariant-loop-passed g l = record {
-  goes : GoesOn g.R.Rack l.fn.array l.array;
+  goes : Continues g.R.Rack l.fn.array l.array;
   size : length l.block ≡ (shape_of l.fn.array).l;
   budget : l.passed ≤ 2 ^ 40;
   number : l.number ≤ l.passed + 2;

@@ -7,7 +7,7 @@ use Rattle.dg_run.proofs.Breaks.{broke_off_behind, cut_behind, ran_out_behind}
 use Rattle.dg_io.specs.Told.{AreAny}
 use Rattle.dg_run.proofs.ToldSteps.{Told-refl, any_left}
 use Rattle.dg_run.specs.Inputs.{ahead, unread}
-use Rattle.dg_run.proofs.Runs.{goes_none}
+use Rattle.dg_run.proofs.Continuing.{continues_none}
 use Rattle.dg_run.proofs.replays.serve_array.Goals as goal
 
 pub returns-clause-part : goal.returns-clause-part
@@ -27,10 +27,10 @@ returns-in_default-send-clause-part g c = λ is.
     inl (c.in_default-send.ensures.part, refl, any_left AreAny (unread c.args.input.now) _ _ (Told-refl AreAny (λ b. tt) (ahead c.args.input.now (g.S.Source.left c.args.source.now))))
 
 pub returns-in_default-clause-goes : goal.returns-in_default-clause-goes
-returns-in_default-clause-goes g c = goes_none g.R.Rack c.args.array.now c.requires.sound
+returns-in_default-clause-goes g c = continues_none g.R.Rack g.met.R.Rack.made_none g.met.R.Rack.made_both g.met.R.Rack.after c.args.array.now c.requires.ready
 
 pub returns-in_default-send-clause-goes : goal.returns-in_default-send-clause-goes
-returns-in_default-send-clause-goes g c = goes_none g.R.Rack c.args.array.now c.requires.sound
+returns-in_default-send-clause-goes g c = continues_none g.R.Rack g.met.R.Rack.made_none g.met.R.Rack.made_both g.met.R.Rack.after c.args.array.now c.requires.ready
 
 pub returns-clause-broken : goal.returns-clause-broken
 returns-clause-broken g c = λ is.

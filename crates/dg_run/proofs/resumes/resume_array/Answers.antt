@@ -1,12 +1,21 @@
-use Rattle.std.proofs.Common.{◌≡◌, ◌∙◌, ap, inr, sym}
+use Rattle.std.proofs.Common.{◌≡◌, ◌∙◌, ap, inl, inr, sym}
 use Rattle.std.specs.Prelude.{Err}
-use Rattle.dg_run.proofs.Runs.{goes_none}
+use Rattle.dg_run.proofs.Continuing.{continues_none}
 use Rattle.dg_run.specs.declared.events.Fault.{Fault}
 use Rattle.dg_run.specs.declared.events.Fault.TheVariants.{Read, Write}
 use Rattle.dg_run.proofs.resumes.resume_array.Goals as goal
 
 pub returns-in_default-clause-goes : goal.returns-in_default-clause-goes
-returns-in_default-clause-goes g c = goes_none g.R.Rack c.args.array.now c.requires.sound
+returns-in_default-clause-goes g c = continues_none g.R.Rack g.met.R.Rack.made_none g.met.R.Rack.made_both g.met.R.Rack.after c.args.array.now c.requires.ready
+
+pub returns-clause-broken : goal.returns-clause-broken
+returns-clause-broken g c is = c.serve_lines.ensures.broken (c.in-Err.is ∙ ap Err (c.status_of.ensures.read.0 is))
+
+pub returns-clause-part : goal.returns-clause-part
+returns-clause-part g c is = inl (c.serve_lines.ensures.part (c.in-Err.is ∙ ap Err (c.status_of.ensures.write.0 is)))
+
+pub returns-in-Ok-Refused-clause-sink_kept : goal.returns-in-Ok-Refused-clause-sink_kept
+returns-in-Ok-Refused-clause-sink_kept g c none = c.refuse.ensures.kept none ∙ c.serve_lines.ensures.sink_kept (λ at. let both = sym c.in-Ok-Refused.is ∙ at in cc both)
 
 pub returns-clause-wanting : goal.returns-clause-wanting
 returns-clause-wanting g c is = inr (c.serve_lines.ensures.wanting (c.in-Err.is ∙ ap Err (c.status_of.ensures.memory.0 is)))

@@ -1,10 +1,12 @@
 use Rattle.std.proofs.Common.{◌≡◌, ◌∙◌, ℕ, List, ap, refl, subst, sym}
 use Rattle.dg_model.specs.Blocks.{padded}
 use Rattle.dg_model.specs.declared.events.Event.{Event}
-use Rattle.dg_model.specs.declared.events.Event.TheVariants.{Audit, Diffuse, Save, Fail, Home, Rebuild, Replace, Settle, Tend, Who, Write}
+use Rattle.std.specs.Prelude.{IfOk}
+use Rattle.dg_model.specs.declared.events.Event.TheVariants.{Audit, Diffuse, Fail, Home, Rebuild, Replace, Settle, Tend, Who, Write}
 use Rattle.dg_model.specs.declared.replies.Reply.{Reply}
-use Rattle.dg_run.proofs.ArraySteps.{steps_hot, steps_of, steps_sized}
+use Rattle.dg_run.proofs.ArraySteps.{disk_pairs, disk_steps, steps_hot, steps_of, steps_sized}
 use Rattle.dg_run.proofs.Runs.{goes_none}
+use Rattle.dg_run.specs.Plain.{IsOfPairs}
 use Rattle.dg_run.specs.Steps.{StepsTo, shape_of}
 use Rattle.dg_volume.specs.Copies.{StepsHot}
 use Rattle.dg_volume.specs.Volumes.{any_phase}
@@ -86,12 +88,51 @@ returns-in_ok-diffuse-in-Diffuse-clause-steps g c =
     let step = subst (λ (r : Reply). StepsHot any_phase any_phase g.R.Rack a.hot a.volume Diffuse r b.volume) (sym c.diffuse_reply.ensures) c.in_ok-diffuse-in-Diffuse.ensures.steps in
     subst (λ (e : Event). StepsTo g.R.Rack a e c.diffuse_reply.result b) (sym c.in-Diffuse.is) (steps_hot g.R.Rack a b Diffuse c.diffuse_reply.result tt refl step)
 
-pub returns-in_ok-save-in-Save-clause-steps : goal.returns-in_ok-save-in-Save-clause-steps
-returns-in_ok-save-in-Save-clause-steps g c =
-    let a = c.args.array.now in
-    let b = record a { volume = c.save.new.self } in
-    let step = subst (λ (r : Reply). StepsHot any_phase any_phase g.R.Rack a.hot a.volume Save r b.volume) (sym c.save_reply.ensures) c.in_ok-save-in-Save.ensures.steps in
-    subst (λ (e : Event). StepsTo g.R.Rack a e c.save_reply.result b) (sym c.in-Save.is) (steps_hot g.R.Rack a b Save c.save_reply.result tt refl step)
+pub returns-in-DropDisk-clause-steps : goal.returns-in-DropDisk-clause-steps
+returns-in-DropDisk-clause-steps g c = disk_steps g.R.Rack c.args.array.now c.args.event.now c.in-DropDisk.is
 
 pub returns-in-Who-clause-goes : goal.returns-in-Who-clause-goes
 returns-in-Who-clause-goes g c = goes_none g.R.Rack c.args.array.now c.requires.sound
+
+pub returns-in_ok-write_block-in-Write-clause-of_pairs : goal.returns-in_ok-write_block-in-Write-clause-of_pairs
+returns-in_ok-write_block-in-Write-clause-of_pairs g c = subst (λ (e : Event). IsOfPairs c.args.array.now e c.write_reply.result) (sym c.in-Write.is) tt
+
+pub returns-in-Fail-clause-of_pairs : goal.returns-in-Fail-clause-of_pairs
+returns-in-Fail-clause-of_pairs g c = subst (λ (e : Event). IsOfPairs c.args.array.now e c.fail_reply.result) (sym c.in-Fail.is) tt
+
+pub returns-in_ok-settle-in-Settle-clause-of_pairs : goal.returns-in_ok-settle-in-Settle-clause-of_pairs
+returns-in_ok-settle-in-Settle-clause-of_pairs g c = subst (λ (e : Event). IsOfPairs c.args.array.now e c.settle_reply.result) (sym c.in-Settle.is) tt
+
+pub returns-in_ok-tend-in-Tend-clause-of_pairs : goal.returns-in_ok-tend-in-Tend-clause-of_pairs
+returns-in_ok-tend-in-Tend-clause-of_pairs g c = subst (λ (e : Event). IsOfPairs c.args.array.now e c.tend_reply.result) (sym c.in-Tend.is) tt
+
+pub returns-in_ok-audit-in-Audit-clause-of_pairs : goal.returns-in_ok-audit-in-Audit-clause-of_pairs
+returns-in_ok-audit-in-Audit-clause-of_pairs g c = subst (λ (e : Event). IsOfPairs c.args.array.now e c.audit_reply.result) (sym c.in-Audit.is) tt
+
+pub returns-in-Who-clause-of_pairs : goal.returns-in-Who-clause-of_pairs
+returns-in-Who-clause-of_pairs g c = subst (λ (e : Event). IsOfPairs c.args.array.now e c.who_reply.result) (sym c.in-Who.is) tt
+
+pub returns-in-Home-clause-of_pairs : goal.returns-in-Home-clause-of_pairs
+returns-in-Home-clause-of_pairs g c = subst (λ (e : Event). IsOfPairs c.args.array.now e c.home_reply.result) (sym c.in-Home.is) tt
+
+pub returns-in-Replace-clause-of_pairs : goal.returns-in-Replace-clause-of_pairs
+returns-in-Replace-clause-of_pairs g c = subst (λ (e : Event). IsOfPairs c.args.array.now e c.replace_reply.result) (sym c.in-Replace.is) tt
+
+pub returns-in_ok-rebuild-in-Rebuild-clause-of_pairs : goal.returns-in_ok-rebuild-in-Rebuild-clause-of_pairs
+returns-in_ok-rebuild-in-Rebuild-clause-of_pairs g c = subst (λ (e : Event). IsOfPairs c.args.array.now e c.rebuild_reply.result) (sym c.in-Rebuild.is) tt
+
+pub returns-in_ok-diffuse-in-Diffuse-clause-of_pairs : goal.returns-in_ok-diffuse-in-Diffuse-clause-of_pairs
+returns-in_ok-diffuse-in-Diffuse-clause-of_pairs g c = subst (λ (e : Event). IsOfPairs c.args.array.now e c.diffuse_reply.result) (sym c.in-Diffuse.is) tt
+
+pub returns-in-Save-clause-steps : goal.returns-in-Save-clause-steps
+returns-in-Save-clause-steps g c =
+    subst (λ (e : Event). IfOk c.save.result (λ reply. StepsTo g.R.Rack c.args.array.now e reply c.save.new.array)) (sym c.in-Save.is) c.save.ensures.steps
+
+pub returns-in-Save-clause-of_pairs : goal.returns-in-Save-clause-of_pairs
+returns-in-Save-clause-of_pairs g c = subst (λ (e : Event). IfOk c.save.result (λ reply. IsOfPairs c.args.array.now e reply)) (sym c.in-Save.is) c.save.ensures.of_pairs
+
+pub returns-in-DropDisk-clause-of_pairs : goal.returns-in-DropDisk-clause-of_pairs
+returns-in-DropDisk-clause-of_pairs g c = disk_pairs g.R.Rack c.args.array.now c.args.event.now c.in-DropDisk.is
+
+pub returns-in-DropDisk-clause-goes : goal.returns-in-DropDisk-clause-goes
+returns-in-DropDisk-clause-goes g c = goes_none g.R.Rack c.args.array.now c.requires.sound

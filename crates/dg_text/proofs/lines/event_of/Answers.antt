@@ -1,13 +1,16 @@
-use Rattle.std.proofs.Common.{◌≡◌, ◌∷◌, ◌++◌, [], ◌∙◌, ℕ, List, length, sym, ap}
-use Rattle.std.specs.Prelude.{Option, Some, None, IfSome, IfNone}
+use Rattle.std.proofs.Common.{◌≡◌, ◌∷◌, ◌++◌, [], ◌∙◌, ℕ, List, length, refl, sym, ap, Bor}
+use Rattle.std.specs.Prelude.{Option, Some, None, IfSome, IfNone, MatchOption, codes}
 use Rattle.std.specs.Option.{option_copied}
 use Rattle.std.proofs.lemmas.Result.{IfOk-weaker}
 use Rattle.dg_model.specs.declared.shapes.Shape.{Shape}
 use Rattle.dg_model.specs.declared.events.Event.{Event}
-use Rattle.dg_text.specs.Lines.{IsInPlace, spelling}
+use Rattle.dg_model.specs.declared.events.Event.TheVariants.{Array}
+use Rattle.dg_model.specs.Shapes.{IsShape}
+use Rattle.dg_text.specs.Lines.{IsInPlace, shape_words, spelling}
 use Rattle.dg_text.specs.Refusals.{IsEventOf, count_of, word_of, words, words_behind}
 use Rattle.dg_text.specs.Texts.{IsEventWith, event_kind}
 use Rattle.dg_text.specs.declared.kinds.EventKind.{EventKind}
+use Rattle.dg_text.specs.declared.kinds.EventKind.TheVariants.{Array as KindArray}
 use Rattle.dg_text.proofs.EventWords.{begins_of, later_of, right_event, text_is}
 use Rattle.dg_text.proofs.KindWords.{kind_same}
 use Rattle.dg_text.proofs.LineWords.{words_some}
@@ -38,6 +41,31 @@ with_word shape line first kind None whole split word found none = λ event plac
     let right = right_event (Some shape) event place in
     none (ap count_of same ∙ sym right.count ∙ sym (ap length own.1))
 
+-- before the array: what stands behind the first word of a line that spells one
+array_text : (line first text : List ℕ) (s : Shape) → line ≡ first ++ 32 ∷ text → first ≡ codes "array" → line ≡ spelling (Array s) → text ≡ shape_words s
+array_text line first text s whole word is =
+    let both : codes "array" ++ 32 ∷ text ≡ codes "array" ++ 32 ∷ shape_words s = ap (λ (w : List ℕ). w ++ 32 ∷ text) (sym word) ∙ sym whole ∙ is in
+    cc both
+
+no_array : (line first : List ℕ) (later : List (List ℕ)) (kind : EventKind) → words line ≡ first ∷ later → first ≡ word_of kind
+    → ((s : Shape) → IsShape s → kind ≡ KindArray → later ≡ later_of (Array s) → first ≡ codes "array" → line ≡ spelling (Array s) → ⊥) → IsEventOf None line None
+no_array line first later kind split word fails (Array s) place is =
+    let own = first_is None line first later (Array s) split place is in
+    fails s place (kind_same kind KindArray (sym word ∙ own.0)) own.1 own.0 is
+no_array line first later kind split word fails event place is = absurd place
+
+module _ {B : Type 0} (now : B → List ℕ) where
+  with_first : (line first : List ℕ) (later : List (List ℕ)) (rest : Option B) (kind : EventKind) (r : Option Event) → words line ≡ first ∷ later → (rest ≡ None → later ≡ []) → first ≡ word_of kind
+      → MatchOption rest (line ≡ first) (λ (b : B). line ≡ first ++ 32 ∷ now b)
+      → IfSome r (λ event. IsInPlace None event × MatchOption rest ⊥ (λ (b : B). word_of kind ++ 32 ∷ now b ≡ spelling event))
+      → IfNone r ((s : Shape) → IsShape s → kind ≡ KindArray → IfSome rest (λ (b : B). now b ≡ shape_words s → ⊥)) → IsEventOf None line r
+  with_first line first later (Some b) kind (Some event) split behind word whole found none = (found.0, whole ∙ ap (λ (w : List ℕ). w ++ 32 ∷ now b) word ∙ found.1)
+  with_first line first later None kind (Some event) split behind word whole found none = absurd found.1
+  with_first line first later (Some b) kind None split behind word whole found none =
+      no_array line first later kind split word (λ s keeps is same array spelled. none s keeps is (array_text line first (now b) s whole array spelled))
+  with_first line first later None kind None split behind word whole found none =
+      no_array line first later kind split word (λ s keeps is same array spelled. cc (sym (behind refl) ∙ same))
+
 pub returns-in_default : goal.returns-in_default
 returns-in_default c = λ event place is.
     let own = first_is (option_copied c.args.shape) c.args.line.now c.cut_word.result.0.now (words_behind (option_copied c.cut_word.result.1)) event c.cut_word.ensures.words place is in
@@ -64,3 +92,11 @@ returns-in-None c =
     let word : c.cut_word.result.0.now ≡ word_of c.in-Some.kind = rw c.in-Some.is at c.kind_with.ensures.found in
     rw c.in-Some-shape.is
     (with_word shape line c.cut_word.result.0.now c.in-Some.kind c.bare_event.result whole split word (c.bare_event.ensures.found shape) c.bare_event.ensures.none)
+
+pub returns-in_default-shape : goal.returns-in_default-shape
+returns-in_default-shape c =
+    let rest = c.cut_word.result.1 in
+    let word : c.cut_word.result.0.now ≡ word_of c.in-Some.kind = rw c.in-Some.is at c.kind_with.ensures.found in
+    rw c.in_default-shape.is
+    (with_first (λ (text : Bor (List ℕ)). text.now) c.args.line.now c.cut_word.result.0.now (words_behind (option_copied rest)) rest c.in-Some.kind c.first_event.result c.cut_word.ensures.words
+    (λ none. ap (λ (r : Option (Bor (List ℕ))). words_behind (option_copied r)) none) word c.cut_word.ensures.text c.first_event.ensures.found c.first_event.ensures.none)

@@ -1,13 +1,19 @@
-use Rattle.std.proofs.Common.{List, ℕ, sym, subst}
-use Rattle.dg_model.specs.States.{Holds}
+use Rattle.std.proofs.Common.{◌++◌, ◌∷◌, ◌<◌, List, ℕ, sym, subst}
+use Rattle.dg_kept.specs.Opened.{AreTold}
+use Rattle.dg_kept.specs.SavedRuns.{GivesBlock}
+use Rattle.dg_model.proofs.MomentLaws.{history_runs}
+use Rattle.dg_model.specs.Moments.Kind.{plain}
+use Rattle.dg_model.specs.Tables.{Table}
 use Rattle.dg_model.specs.declared.events.Event.TheVariants.{Read}
-use Rattle.dg_uses.proofs.SavedAgain.{answered_at}
+use Rattle.dg_run.specs.Opened.{opened_moment}
+use Rattle.dg_uses.proofs.SavedAgain.{answered_at, reads_block}
+use Rattle.dg_uses.specs.Saves.{first_of}
 use Rattle.dg_uses.proofs.saves.saved_blocks_are_read_again.Goals as goal
 
 pub returns : goal.returns
 returns c = λ start done given number last held end images bytes before now front rest b replies again each low on.
-    let holds : Holds images on.state = subst (λ (v : List (List ℕ)). Holds images (record on.state { blocks = v })) (sym on.blocks) on.resumed.held in
-    let at = answered_at on.state front (Read b) rest replies on.final on.run in
+    let run = history_runs AreTold plain (opened_moment on.state on.first on.state.counts) (front ++ Read b ∷ rest) replies on.final on.history in
+    let at = answered_at (first_of on) front (Read b) rest replies on.final.state run in
     record {
       answers = at.answers;
       reply = at.reply;
@@ -17,6 +23,6 @@ returns c = λ start done given number last held end images bytes before now fro
       led = at.led;
       new = at.new;
       step = at.step;
-      gives = λ stands. c.saved_blocks_are_read.ensures start done given number last held images end on.opened.taken before on.state front at.answers at.mid b at.reply at.new
-          again.away on.opened.are on.opened.opens on.opened.none holds each at.led low at.step stands;
+      gives = λ stands. subst (λ (v : List (List ℕ)). GivesBlock v b at.reply) on.again.blocks
+          (reads_block (first_of on) front at.answers at.mid b at.reply at.new each at.led (subst (λ (t : Table). b < t.shape.n) (sym on.again.resumed.table) low) at.step stands);
     }

@@ -1,12 +1,11 @@
-use Rattle.std.proofs.Common.{◌∙◌, ◌≤◌, ◌/◌, ap, length, subst, sym}
-use Rattle.std.specs.Prelude.{None}
+use Rattle.std.proofs.Common.{◌∙◌, ap, length, sym}
 use Rattle.std.proofs.lemmas.List.{length-replicate}
 use Rattle.dg_model.specs.Blocks.{zeros}
-use Rattle.dg_io.specs.MadeLaws.{same_both}
 use Rattle.dg_model.specs.States.{State}
-use Rattle.dg_model.specs.declared.shapes.Shape.{Shape}
 use Rattle.dg_run.proofs.arrays.Array.new.Goals as goal
+use Rattle.dg_volume.specs.HeldLaws.{own_then}
 use Rattle.dg_volume.specs.Origins.Origin.{nothing}
+use Rattle.dg_volume.specs.Volumes.{shape_of}
 
 pub returns : goal.returns
 returns g c =
@@ -16,7 +15,7 @@ returns g c =
       sound = into.leaves.well;
       shape_is = into.leaves.shape ∙ made.shape_is;
       tells = λ q told. made.tells q (into.leaves.tells q told);
-      others = λ q past. same_both _ _ _ (made.own.other_bytes q past) (into.leaves.own.other_bytes q (subst (λ (s : Shape). s.b ≤ q / 2) (sym made.shape_is) past));
+      own = own_then g.R.Rack c.args.shape (shape_of c.in_ok-volume.volume) _ _ _ made.shape_is made.own into.leaves.own;
       same_rack = into.leaves.same_rack ∙ made.same_rack;
       state = made.state;
       blank = made.blank;

@@ -38,7 +38,19 @@ returns-in_err-found-clause-on g c =
     })
 
 pub returns-in_err-found-clause-err : goal.returns-in_err-found-clause-err
-returns-in_err-found-clause-err g c = on_err c.from_residual.result _ (inl (λ told. c.open_seal.ensures.array.stands))
+returns-in_err-found-clause-err g c =
+    let a = c.args.self.now in
+    let m : Volume AnyPhase g.row.R.Denot = record a { store = c.open_seal.new.store; label = c.open_seal.new.label } in
+    let leaves = open_leaves g.R.Rack a m (record {
+      well = c.requires.well;
+      lost = sym c.is_degraded.ensures ∙ c.if-not-is_degraded.false;
+      beside = record { phase_is = refl; pending = refl; homes = refl; copies = refl; in_use = refl };
+      levels = refl;
+      given_is = refl;
+      good = c.has_good.ensures.some c.if-not-has_good.false;
+      opening = c.open_seal.ensures;
+    }) in
+    on_err c.from_residual.result _ (inl (leaves, λ told. c.open_seal.ensures.array.stands))
 
 pub returns-in_default-clause-on : goal.returns-in_default-clause-on
 returns-in_default-clause-on g c =

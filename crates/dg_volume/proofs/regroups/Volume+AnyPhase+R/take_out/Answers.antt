@@ -22,6 +22,7 @@ returns-clause-out g c =
     let places : places_left c.lost.result c.shape.result.now.b ≡ left_in a.store =
     ap (λ n. places_left n c.shape.result.now.b) c.lost.ensures ∙ ap (λ (s : Shape). places_left (lost_bits (members_of a.store) (shape_of a.store).b) s.b) c.shape.ensures ∙ c.bits_leave_the_live.ensures in record {
       array = c.reduce.ensures;
+      bits = c.bits_leave_the_live.ensures;
       phase_is = c.take_marks.ensures.phase;
       kept_is = c.take_marks.ensures.kept;
       pending_is =

@@ -4,15 +4,22 @@ use Rattle.dg_model.specs.declared.events.Event.TheVariants.{Save}
 use Rattle.dg_model.specs.declared.replies.Reply.TheVariants.{Lost}
 use Rattle.dg_regroup.specs.Extras.{extra_bytes}
 use Rattle.dg_regroup.specs.declared.extras.Extra.{Extra}
-use Rattle.dg_volume.proofs.CheckpointSteps.{goes_behind, goes_lost, steps_kept, steps_lost}
+use Rattle.dg_volume.proofs.ArrayLaws.{on_err}
+use Rattle.dg_volume.proofs.CheckpointSteps.{goes_behind, goes_lost, steps_kept, steps_lost, untouched}
 use Rattle.dg_volume.proofs.CommitSteps.{commit_goes}
 use Rattle.dg_volume.proofs.volumes.Volume.checkpoint.Goals as goal
 use Rattle.dg_volume.specs.Commits.{CommitsArray}
 use Rattle.dg_volume.specs.Copies.{StepsHot}
 use Rattle.dg_volume.specs.Saves.{save_reply}
 
+pub returns-in_err-extra-clause-err : goal.returns-in_err-extra-clause-err
+returns-in_err-extra-clause-err g c = on_err c.from_residual.result _ (untouched g.S.InPhase g.R.Rack c.args.self.now c.requires.well)
+
+pub returns-in_err-bytes-clause-err : goal.returns-in_err-bytes-clause-err
+returns-in_err-bytes-clause-err g c = on_err c.from_residual-in_err-bytes.result _ (untouched g.S.InPhase g.R.Rack c.args.self.now c.requires.well)
+
 pub returns-then-not-has_room-clause-err : goal.returns-then-not-has_room-clause-err
-returns-then-not-has_room-clause-err g c = c.save.ensures.array
+returns-then-not-has_room-clause-err g c = (c.save.ensures.leaves, c.save.ensures.array)
 
 pub returns-then-has_good-clause-on : goal.returns-then-has_good-clause-on
 returns-then-has_good-clause-on g c =

@@ -146,7 +146,7 @@ returns-in_default-followed-clause-leaves g c =
     let sited = subst (λ (t : Table). IsSited (table_of a) c.args.block t) (sym f.reads.table) stored.sited in
     loosened_leaves any_phase any_phase g.R.Rack a c.write_opened.new.store c.in-Some.inference c.follow-followed.new.inference b c.requires.well
     (uncut_in_use a b c.args.block (f.reads.keeps.shape ∙ k.falls.stays.shape) within sited
-    (record { boundaries = c.uncut.ensures.boundaries; long = c.uncut.ensures.long; live = c.uncut.ensures.live; cut = c.uncut.ensures.cut }) c.requires.well.in_use) c.uncut.ensures.boundaries c.uncut.ensures.long k.falls f.sound f.reads f.levels refl
+    (record { boundaries = c.uncut.ensures.boundaries; long = c.uncut.ensures.long; live = c.uncut.ensures.live; cut = c.uncut.ensures.cut }) c.requires.well.in_use) c.uncut.ensures.boundaries (λ i. (c.uncut.ensures.live i).items) c.uncut.ensures.long k.falls f.sound f.reads f.levels refl
     (c.new-3.ensures ∙ c.new-2.ensures.items) (rw c.in-Some.is at c.take_inference.ensures.kept) refl refl f.size f.room
     (labels_followed g.R.Rack (line_of a) a.store c.write_opened.new.store b.store a.label c.write_opened.new.label (k.label (line_of a)) f.reads)
 

@@ -1,0 +1,107 @@
+-- A blank array of the boundaries in use.
+use Rattle.std.proofs.Common.{◌≡◌, ◌∙◌, ◌+◌, ◌*◌, ◌/◌, ◌%◌, ◌<◌, ◌≤◌, ℕ, true, List, ◌++◌, ap, arith, inl, length, slice_index, subst, sym}
+use Rattle.std.specs.Prelude.{[], All, IsSome}
+use Rattle.std.proofs.lemmas.List.Elements.{All-from_get_or}
+use Rattle.std.proofs.lemmas.List.FromFn.{get_or-range_with_len, length-range_with_len}
+use Rattle.dg_io.specs.Makes.{Makes}
+use Rattle.dg_io.specs.RackCalls.{RackCall}
+use Rattle.dg_io.specs.RackWords.{After}
+use Rattle.dg_io.specs.declared.outside.Rack.{Ghosts}
+use Rattle.dg_model.specs.Lives.{all_live, member_at}
+use Rattle.dg_model.specs.Moments.{AreCountsOf}
+use Rattle.dg_model.specs.Shapes.{IsShape}
+use Rattle.dg_model.specs.States.{State}
+use Rattle.dg_model.specs.declared.shapes.Shape.{Shape}
+use Rattle.dg_regroup.specs.LiveGhosts.{live}
+use Rattle.dg_regroup.specs.LiveRacks.{HasNoneAbsent, is_there, live_in, rack_in}
+use Rattle.dg_regroup.specs.declared.live_racks.LiveRack.{LiveRack}
+use Rattle.dg_run.proofs.Continuing.{begins_on, rises}
+use Rattle.dg_run.proofs.Happening.{tied_in}
+use Rattle.dg_run.proofs.Segments.{Begins, Segment, segment, there_by}
+use Rattle.dg_run.specs.Histories.{IsBlankReady, IsReady, below_of, boundaries_of, live_of}
+use Rattle.dg_run.specs.Steps.{IsBlankArray, rack_of}
+use Rattle.dg_run.specs.declared.arrays.Array.{Array}
+use Rattle.dg_store.specs.Leaves.{IsCallBelow}
+
+-- the rack that comes back in the end is the one below
+pub into_below : {R : Type 0} {x : R} {y z : LiveRack R} → x ≡ rack_in y → y ≡ z → x ≡ rack_in z
+into_below first second = first ∙ ap (λ it. rack_in it) second
+
+module _ {R : Type 0} (rack : Ghosts R) (none : (s : R) → rack.made s [] s) (both : (a b c : R) (x y : List RackCall) → rack.made a x b → rack.made b y c → rack.made a (x ++ y) c)
+    (law : (a b : R) (made : List RackCall) → rack.made a made b → After rack made a b) where
+  module _ (shape : Shape) (before : R) (start : LiveRack R) (array : Array (LiveRack R)) (well : IsShape shape) (from : rack_in start ≡ before) (all : live_in start ≡ all_live 16)
+      (absent : HasNoneAbsent start) (blank : IsBlankArray (live rack) shape start array) where
+    few : shape.b ≤ 16
+    few = well.most_boundaries
+
+    same_index : (i : ℕ) → i < shape.b → slice_index (all_live 16) i ≡ slice_index (all_live shape.b) i
+    same_index i low = get_or-range_with_len 0 16 i 0 (omega (arith, low, few)) ∙ sym (get_or-range_with_len 0 shape.b i 0 low)
+
+    begins : Begins (all_live shape.b) start
+    begins = record {
+      longer = subst (λ (l : List ℕ). length (all_live shape.b) ≤ length l) (sym all) (omega (arith, few, length-range_with_len 0 shape.b, length-range_with_len 0 16));
+      places = λ i low. ap (λ (l : List ℕ). slice_index l i) all ∙ same_index i (omega (arith, low, length-range_with_len 0 shape.b));
+    }
+
+    within : All (λ s. s < shape.b) (all_live shape.b)
+    within = All-from_get_or (λ s. s < shape.b) (all_live shape.b) 0 (λ i low.
+        let less : i < shape.b = omega (arith, low, length-range_with_len 0 shape.b) in
+        omega (arith, get_or-range_with_len 0 shape.b i 0 less, less))
+
+    part : Segment rack shape.b start (rack_of array)
+    part = segment rack none both law (all_live shape.b) shape.b start (rack_of array) begins within
+        (subst (λ (n : ℕ). Makes (live rack) (IsCallBelow n) start (rack_of array)) (sym (length-range_with_len 0 shape.b)) blank.own.made) blank.tells
+
+    live_same : live_of array ≡ all_live shape.b
+    live_same = sym (ap (λ (s : State). s.live) blank.stands.volume.is) ∙ ap (λ (s : State). s.live) blank.blank.is
+
+    line_same : boundaries_of array ≡ shape.b
+    line_same = sym (ap (λ (s : State). s.boundaries) blank.stands.volume.is) ∙ ap (λ (s : State). s.boundaries) blank.blank.is
+
+    ready : IsReady rack array
+    ready =
+        let on = begins_on (all_live shape.b) (live_of array) start (rack_of array) part.live_is live_same begins in
+        record {
+          sound = blank.sound;
+          longer = on.longer;
+          places = on.places;
+          whole = inl (part.live_is ∙ all);
+          calls = part.calls ∙ absent.calls;
+          writes = part.writes ∙ absent.writes;
+        }
+
+    counts_at : (q : ℕ) → q / 2 < shape.b → ((live rack).counts start).faults q ≡ (rack.counts before).faults (member_at (all_live shape.b) q)
+    counts_at q less =
+        let there : is_there (live_in start) q ≡ true = there_by (live_in start) q (omega (arith, begins.longer, less, length-range_with_len 0 shape.b)) in
+        let number : member_at (live_in start) q ≡ member_at (all_live shape.b) q = ap (λ (n : ℕ). 2 * n + q % 2) (begins.places (q / 2) (omega (arith, less, length-range_with_len 0 shape.b))) in
+        rw there (ap (λ (n : ℕ). (rack.counts (rack_in start)).faults n) number ∙ ap (λ (r : R). (rack.counts r).faults (member_at (all_live shape.b) q)) from)
+
+    begun : AreCountsOf (all_live shape.b) (rack.counts before) ((live rack).counts start)
+    begun = record {
+      faults = λ q low.
+          let less : q / 2 < shape.b = omega (arith, low, length-range_with_len 0 shape.b) in
+          counts_at q less;
+      calls = (let none_made = absent.calls in let h : ((live rack).counts start).calls ≡ (rack.counts (rack_in start)).calls = omega (arith, none_made) in h) ∙ ap (λ (r : R). (rack.counts r).calls) from;
+      writes = (let none_made = absent.writes in let h : ((live rack).counts start).writes ≡ (rack.counts (rack_in start)).writes = omega (arith, none_made) in h) ∙ ap (λ (r : R). (rack.counts r).writes) from;
+    }
+
+    made_before : Makes rack (IsCallBelow shape.b) before (below_of array)
+    made_before = subst (λ (r : R). Makes rack (IsCallBelow shape.b) r (below_of array)) from part.made
+
+    pub blank_ready : IsBlankReady rack shape before array
+    blank_ready = record {
+      ready = ready;
+      shape_is = blank.shape_is;
+      boundaries = line_same;
+      made = made_before;
+      tells = λ q told. subst (λ (r : R). IsSome (rack.bytes r q)) from (part.tells q told);
+      state = blank.state;
+      makes = record {
+        first = (live rack).counts start;
+        is_blank = blank.blank;
+        begun = λ is. begun;
+        rise = rises rack none both law (IsCallBelow shape.b) before (below_of array) made_before;
+        tied = tied_in rack none both law array blank.state ready blank.stands.volume;
+      };
+      stands = blank.stands;
+    }

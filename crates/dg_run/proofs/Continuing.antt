@@ -1,0 +1,285 @@
+-- What events leave of an array of the boundaries in use.
+use Rattle.std.proofs.Common.{◌≡◌, ◌⊎◌, ◌∙◌, ◌+◌, ◌-◌, ◌/◌, ◌<◌, ◌≤◌, ℕ, suc, zero, Bool, true, false, List, [], ◌∷◌, ◌++◌, ap, arith, inl, inr, length, slice_index, refl, subst, sym, length-append}
+use Rattle.std.specs.Prelude.{◌==◌, All, IsSome, filter, if◌then◌else◌, map}
+use Rattle.std.specs.Int.{bit_at}
+use Rattle.std.specs.List.{range_with_len}
+use Rattle.std.proofs.lemmas.List.{get_or-map, length-map}
+use Rattle.std.proofs.lemmas.List.Elements.{All-cons, All-get_or, All-nil, filter-append}
+use Rattle.dg_io.specs.Makes.{Makes}
+use Rattle.dg_io.specs.MakesLaws.{makes_both, makes_made, makes_none}
+use Rattle.dg_io.specs.MadeLaws.{each_such}
+use Rattle.dg_io.specs.RackCalls.{RackCall, IsNotOn}
+use Rattle.dg_io.specs.RackCalls.RackCall.{blanks, calls, looks}
+use Rattle.dg_io.specs.RackWords.{After}
+use Rattle.dg_io.specs.Reduced.{places_left}
+use Rattle.dg_io.specs.Told.{IsSame, Told}
+use Rattle.dg_io.specs.declared.outside.Rack.{Ghosts}
+use Rattle.dg_model.specs.Lives.{all_live, boundary_at, member_at}
+use Rattle.dg_model.specs.States.{CountsRise}
+use Rattle.dg_regroup.specs.LiveGhosts.{live}
+use Rattle.dg_regroup.specs.LivePassing.{own_calls, own_writes}
+use Rattle.dg_regroup.specs.LiveRacks.{DropsBoundaries, live_count, live_in, rack_in}
+use Rattle.dg_regroup.specs.declared.live_racks.LiveRack.{LiveRack}
+use Rattle.dg_run.proofs.Segments.{Begins, Segment, segment}
+use Rattle.dg_run.specs.Histories.{Continues, IsReady, TellsLine, below_of, boundaries_of, live_of}
+use Rattle.dg_run.specs.Steps.{rack_of, shape_of}
+use Rattle.dg_run.specs.declared.arrays.Array.{Array}
+use Rattle.dg_store.specs.Leaves.{IsCallBelow}
+use Rattle.dg_store.specs.Reduced.{left_in}
+use Rattle.dg_store.specs.Stores as stores
+use Rattle.dg_volume.specs.Regroups.{GoesOn, KeepsOrLeaves, TakesOut}
+use Rattle.dg_volume.specs.Volumes.{Leaves, any_phase}
+use Rattle.dg_volume.specs.Volumes as volumes
+
+-- ---- lists
+
+range_split : (a m k : ℕ) → range_with_len a (m + k) ≡ range_with_len a m ++ range_with_len (a + m) k
+range_split a zero k =
+    let none : 0 + k ≡ k = omega arith in
+    let here : a ≡ a + 0 = omega arith in
+    ap (λ (n : ℕ). range_with_len a n) none ∙ ap (λ (n : ℕ). range_with_len n k) here
+range_split a (suc m) k =
+    let more : suc m + k ≡ suc (m + k) = omega arith in
+    let on : a + 1 + m ≡ a + suc m = omega arith in
+    ap (λ (n : ℕ). range_with_len a n) more ∙ ap (λ (l : List ℕ). a ∷ l) (range_split (a + 1) m k ∙ ap (λ (n : ℕ). range_with_len (a + 1) m ++ range_with_len n k) on)
+
+-- the places that are left of more boundaries, where none of the others is lost, begin with those of fewer
+places_split : (lost b n : ℕ) → b ≤ n → places_left lost n ≡ places_left lost b ++ filter (λ s. bit_at lost s == 0) (range_with_len b (n - b))
+places_split lost b n few =
+    let f : ℕ → Bool = λ s. bit_at lost s == 0 in
+    let here : 0 + b ≡ b = omega arith in
+    ap (λ (m : ℕ). filter f (range_with_len 0 m)) (omega (arith, few)) ∙ ap (filter f) (range_split 0 b (n - b) ∙ ap (λ (m : ℕ). range_with_len 0 b ++ range_with_len m (n - b)) here)
+    ∙ filter-append f (range_with_len 0 b) (range_with_len b (n - b))
+
+low_filter : (f : ℕ → Bool) (a m bound : ℕ) → a + m ≤ bound → All (λ s. s < bound) (filter f (range_with_len a m))
+low_filter f a zero bound few = All-nil (λ s. s < bound)
+low_filter f a (suc m) bound few = one (f a) (low_filter f (a + 1) m bound (omega (arith, few))) where
+  one : (kept : Bool) → All (λ s. s < bound) (filter f (range_with_len (a + 1) m)) → All (λ s. s < bound) (if kept then a ∷ filter f (range_with_len (a + 1) m) else filter f (range_with_len (a + 1) m))
+  one true later = All-cons (λ s. s < bound) a (filter f (range_with_len (a + 1) m)) (omega (arith, few)) later
+  one false later = later
+
+index_front : (xs ys : List ℕ) (i : ℕ) → i < length xs → slice_index (xs ++ ys) i ≡ slice_index xs i
+index_front [] ys i low = absurd (omega (arith, low))
+index_front (x ∷ xs) ys zero low = refl
+index_front (x ∷ xs) ys (suc i) low = index_front xs ys i (omega (arith, low))
+
+pub begins_on : {R : Type 0} (numbers others : List ℕ) (x y : LiveRack R) → live_in y ≡ live_in x → others ≡ numbers → Begins numbers x → Begins others y
+begins_on numbers others x y same is begins = record {
+  longer = subst (λ (l : List ℕ). length others ≤ length l) (sym same) (subst (λ (n : List ℕ). length n ≤ length (live_in x)) (sym is) begins.longer);
+  places = λ i low.
+      ap (λ (l : List ℕ). slice_index l i) same ∙ begins.places i (subst (λ (n : List ℕ). i < length n) is low) ∙ ap (λ (n : List ℕ). slice_index n i) (sym is);
+}
+
+-- the boundaries that are left are the first of the rack's
+begins_left : {R : Type 0} (numbers left : List ℕ) (lost b : ℕ) (x y : LiveRack R) → Begins numbers x → length numbers ≡ b → places_left lost b ≡ left → DropsBoundaries x lost y
+    → Begins (map (boundary_at numbers) left) y
+begins_left numbers left lost b x y begins size bits drops =
+    let n : ℕ = length (live_in x) in
+    let few : b ≤ n = omega (arith, begins.longer, size) in
+    let more : List ℕ = filter (λ s. bit_at lost s == 0) (range_with_len b (n - b)) in
+    let split : places_left lost n ≡ left ++ more = places_split lost b n few ∙ ap (λ (l : List ℕ). l ++ more) bits in
+    let are : live_in y ≡ map (boundary_at (live_in x)) (left ++ more) = drops.live ∙ ap (map (boundary_at (live_in x))) split in
+    let low : All (λ s. s < b) left = subst (λ (l : List ℕ). All (λ s. s < b) l) bits (low_filter (λ s. bit_at lost s == 0) 0 b b (omega arith)) in
+    let wide : length (live_in y) ≡ length (left ++ more) = ap length are ∙ length-map (left ++ more) (boundary_at (live_in x)) in
+    let count : length (map (boundary_at numbers) left) ≡ length left = length-map left (boundary_at numbers) in
+    record {
+      longer = omega (arith, wide, count, length-append left more);
+      places = λ i here.
+          let within : i < length left = omega (arith, here, count) in
+          let far : i < length (left ++ more) = omega (arith, within, length-append left more) in
+          let place : slice_index left i < b = All-get_or (λ s. s < b) left i 0 within low in
+          ap (λ (l : List ℕ). slice_index l i) are
+          ∙ get_or-map (boundary_at (live_in x)) (left ++ more) i 0 0 far
+          ∙ ap (boundary_at (live_in x)) (index_front left more i within)
+          ∙ begins.places (slice_index left i) (omega (arith, place, size))
+          ∙ sym (get_or-map (boundary_at numbers) left i 0 0 within);
+    }
+
+module _ {R : Type 0} (rack : Ghosts R) (none : (s : R) → rack.made s [] s) (both : (a b c : R) (x y : List RackCall) → rack.made a x b → rack.made b y c → rack.made a (x ++ y) c)
+    (law : (a b : R) (made : List RackCall) → rack.made a made b → After rack made a b) where
+  -- ---- what calls leave of the rack below
+
+  pub told_before : (may : RackCall → Type 0) (x y : R) → Makes rack may x y → (p : ℕ) → rack.tells y p → rack.tells x p
+  told_before may x y made p = let whole = makes_made rack may none both x y made in (law x y whole.calls whole.made).told_before p
+
+  pub rises : (may : RackCall → Type 0) (x y : R) → Makes rack may x y → CountsRise (rack.counts x) (rack.counts y)
+  rises may x y made = let whole = makes_made rack may none both x y made in (law x y whole.calls whole.made).rise
+
+  pub same_name : (may : RackCall → Type 0) (x y : R) → Makes rack may x y → rack.name y ≡ rack.name x
+  same_name may x y made = let whole = makes_made rack may none both x y made in (law x y whole.calls whole.made).same_rack
+
+  not_on : (bound p : ℕ) → bound ≤ p / 2 → (call : RackCall) → IsCallBelow bound call → IsNotOn p call
+  not_on bound p past (looks q) low = absurd low
+  not_on bound p past (blanks q) low = λ same. omega (arith, past, low, same)
+  not_on bound p past (calls q) low = λ same. omega (arith, past, low, same)
+
+  pub others_same : (bound : ℕ) (x y : R) → Makes rack (IsCallBelow bound) x y → (p : ℕ) → bound ≤ p / 2 → Told IsSame (rack.bytes x p) (rack.bytes y p)
+  others_same bound x y made p past =
+      let whole = makes_made rack (IsCallBelow bound) none both x y made in
+      (law x y whole.calls whole.made).other_bytes p (each_such (IsCallBelow bound) (IsNotOn p) (not_on bound p past) whole.calls whole.each)
+
+  pub others_counts : (bound : ℕ) (x y : R) → Makes rack (IsCallBelow bound) x y → (p : ℕ) → bound ≤ p / 2 → (rack.counts y).faults p ≡ (rack.counts x).faults p
+  others_counts bound x y made p past =
+      let whole = makes_made rack (IsCallBelow bound) none both x y made in
+      (law x y whole.calls whole.made).other_faults p (each_such (IsCallBelow bound) (IsNotOn p) (not_on bound p past) whole.calls whole.each)
+
+  -- ---- an array goes on
+
+  begins_of : (a : Array (LiveRack R)) → IsReady rack a → Begins (live_of a) (rack_of a)
+  begins_of a ready = record { longer = ready.longer; places = ready.places }
+
+  segment_of : (a b : Array (LiveRack R)) → IsReady rack a → Leaves any_phase any_phase (live rack) a.volume b.volume → Segment rack (boundaries_of a) (rack_of a) (rack_of b)
+  segment_of a b ready leaves =
+      segment rack none both law (live_of a) (boundaries_of a) (rack_of a) (rack_of b) (begins_of a ready) ready.sound.in_use.live.within
+      (subst (λ (n : ℕ). Makes (live rack) (IsCallBelow n) (rack_of a) (rack_of b)) (sym ready.sound.in_use.number) leaves.own.made) leaves.tells
+
+  whole_on : (a b : Array (LiveRack R)) → live_in (rack_of b) ≡ live_in (rack_of a) → live_of b ≡ live_of a → boundaries_of b ≡ boundaries_of a
+      → (live_in (rack_of a) ≡ all_live 16) ⊎ (length (live_of a) < boundaries_of a) → (live_in (rack_of b) ≡ all_live 16) ⊎ (length (live_of b) < boundaries_of b)
+  whole_on a b same live_is line (inl all) = inl (same ∙ all)
+  whole_on a b same live_is line (inr less) = inr (omega (arith, ap length live_is, line, less))
+
+  pub continues_by : (a b : Array (LiveRack R)) → IsReady rack a → Leaves any_phase any_phase (live rack) a.volume b.volume → Continues rack a b
+  continues_by a b ready leaves =
+      let s = segment_of a b ready leaves in
+      let begins = begins_on (live_of a) (live_of b) (rack_of a) (rack_of b) s.live_is leaves.live (begins_of a ready) in
+      record {
+        ready = record {
+          sound = leaves.well;
+          longer = begins.longer;
+          places = begins.places;
+          whole = whole_on a b s.live_is leaves.live leaves.boundaries ready.whole;
+          calls = s.calls ∙ ready.calls;
+          writes = s.writes ∙ ready.writes;
+        };
+        line = leaves.line;
+        boundaries = leaves.boundaries;
+        made = s.made;
+        tells = s.tells;
+      }
+
+  pub continues_none : (a : Array (LiveRack R)) → IsReady rack a → Continues rack a a
+  continues_none a ready = record {
+    ready = ready;
+    line = refl;
+    boundaries = refl;
+    made = makes_none rack (IsCallBelow (boundaries_of a)) (below_of a);
+    tells = λ q told. told;
+  }
+
+  pub continues_then : (a b c : Array (LiveRack R)) → Continues rack a b → Continues rack b c → Continues rack a c
+  continues_then a b c first second = record {
+    ready = second.ready;
+    line = second.line ∙ first.line;
+    boundaries = second.boundaries ∙ first.boundaries;
+    made = makes_both rack (IsCallBelow (boundaries_of a)) (below_of a) (below_of b) (below_of c) first.made
+        (subst (λ (n : ℕ). Makes rack (IsCallBelow n) (below_of b) (below_of c)) first.boundaries second.made);
+    tells = λ q told. first.tells q (second.tells q told);
+  }
+
+  -- what the rack tells in the end of the first line's members it told before
+  pub told_line : (a b : Array (LiveRack R)) → Continues rack a b → TellsLine rack b → TellsLine rack a
+  told_line a b goes tells p low =
+      told_before (IsCallBelow (boundaries_of a)) (below_of a) (below_of b) goes.made p (tells p (subst (λ (n : ℕ). p / 2 < n) (sym goes.boundaries) low))
+
+  -- so it tells its volume's members
+  pub told_volume : (a : Array (LiveRack R)) → IsReady rack a → TellsLine rack a → volumes.Tells (live rack) a.volume
+  told_volume a ready tells q below there =
+      let place : q / 2 < length (live_of a) = omega (arith, below, ready.sound.in_use.number) in
+      let number : slice_index (live_in (rack_of a)) (q / 2) ≡ slice_index (live_of a) (q / 2) = ready.places (q / 2) place in
+      let low : slice_index (live_of a) (q / 2) < boundaries_of a = All-get_or (λ s. s < boundaries_of a) (live_of a) (q / 2) 0 place ready.sound.in_use.live.within in
+      tells (member_at (live_in (rack_of a)) q) (omega (arith, number, low))
+
+  -- ---- boundaries are taken out of use
+
+  -- What that leaves: the two chains of calls, and what stood between them.
+  pub record Parts (a b : Array (LiveRack R)) (mid left : LiveRack R) : Type 0 where
+    pub first : Segment rack (boundaries_of a) (rack_of a) mid
+    pub same : rack_in left ≡ rack_in mid
+    pub own : own_calls left ≡ own_calls mid
+    pub own_writes_are : own_writes left ≡ own_writes mid
+    pub begins : Begins (live_of b) left
+    pub second : Segment rack (boundaries_of a) left (rack_of b)
+
+  pub parts_of : (a b : Array (LiveRack R)) → IsReady rack a → GoesOn any_phase (live rack) a.volume b.volume
+      → (out : TakesOut (live rack) live_count DropsBoundaries a.volume.store b.volume.store) → live_of b ≡ map (boundary_at (live_of a)) (left_in out.mid)
+      → Parts a b (stores.rack_of out.mid) (stores.rack_of out.left)
+  parts_of a b ready goes out is =
+      let mid = stores.rack_of out.mid in
+      let left = stores.rack_of out.left in
+      let size : length (live_of a) ≡ (shape_of a).b = ready.sound.in_use.number in
+      let first = segment rack none both law (live_of a) (boundaries_of a) (rack_of a) mid (begins_of a ready) ready.sound.in_use.live.within
+      (subst (λ (n : ℕ). Makes (live rack) (IsCallBelow n) (rack_of a) mid) (sym size) out.opened.own.made) out.opened.stays.tells in
+      let begins_mid : Begins (live_of a) mid = begins_on (live_of a) (live_of a) (rack_of a) mid first.live_is refl (begins_of a ready) in
+      let same_b : length (live_of a) ≡ (stores.shape_of out.mid).b = size ∙ sym (ap (λ s. s.b) out.opened.shape) in
+      let begins_left = begins_left (live_of a) (left_in out.mid) (stores.lost_bits (stores.members_of out.mid) (stores.shape_of out.mid).b) (stores.shape_of out.mid).b mid left
+      begins_mid same_b out.bits out.below in
+      let begins : Begins (live_of b) left = subst (λ (l : List ℕ). Begins l left) (sym is) begins_left in
+      let rack_same : rack_in left ≡ rack_in mid = out.below.rack in
+      let counts_same = ap (λ (r : R). rack.counts r) rack_same in
+      let calls_same : (rack.counts (rack_in left)).calls ≡ (rack.counts (rack_in mid)).calls = ap (λ c. c.calls) counts_same in
+      let writes_same : (rack.counts (rack_in left)).writes ≡ (rack.counts (rack_in mid)).writes = ap (λ c. c.writes) counts_same in
+      let well = goes.well in
+      let wide : length (live_of b) ≡ (stores.shape_of out.left).b = well.in_use.number ∙ ap (λ s. s.b) out.read.shape in
+      record {
+        first = first;
+        same = rack_same;
+        own = omega (arith, calls_same, out.leaves.calls);
+        own_writes_are = omega (arith, writes_same, out.leaves.writes);
+        begins = begins;
+        second = segment rack none both law (live_of b) (boundaries_of a) left (rack_of b) begins (subst (λ (n : ℕ). All (λ s. s < n) (live_of b)) goes.boundaries well.in_use.live.within)
+            (subst (λ (n : ℕ). Makes (live rack) (IsCallBelow n) left (rack_of b)) (sym wide) out.read.own.made) out.read.stays.tells;
+      }
+
+  fewer_out : (a b : Array (LiveRack R)) → IsReady rack a → GoesOn any_phase (live rack) a.volume b.volume
+      → (out : TakesOut (live rack) live_count DropsBoundaries a.volume.store b.volume.store) → live_of b ≡ map (boundary_at (live_of a)) (left_in out.mid) → length (live_of b) < boundaries_of b
+  fewer_out a b ready goes out is =
+      let count : length (live_of b) ≡ length (left_in out.mid) = ap length is ∙ length-map (left_in out.mid) (boundary_at (live_of a)) in
+      let same_b : (stores.shape_of out.mid).b ≡ (shape_of a).b = ap (λ s. s.b) out.opened.shape in
+      let fewer = ready.sound.labeled.fits.fewer in
+      let most = ready.sound.long in
+      omega (arith, count, out.fewer, same_b, fewer, most, goes.boundaries)
+
+  pub continues_out : (a b : Array (LiveRack R)) → IsReady rack a → GoesOn any_phase (live rack) a.volume b.volume
+      → (out : TakesOut (live rack) live_count DropsBoundaries a.volume.store b.volume.store) → live_of b ≡ map (boundary_at (live_of a)) (left_in out.mid) → Continues rack a b
+  continues_out a b ready goes out is =
+      let mid = stores.rack_of out.mid in
+      let left = stores.rack_of out.left in
+      let p = parts_of a b ready goes out is in
+      let begins = begins_on (live_of b) (live_of b) left (rack_of b) p.second.live_is refl p.begins in
+      record {
+        ready = record {
+          sound = goes.well;
+          longer = begins.longer;
+          places = begins.places;
+          whole = inr (fewer_out a b ready goes out is);
+          calls = p.second.calls ∙ p.own ∙ p.first.calls ∙ ready.calls;
+          writes = p.second.writes ∙ p.own_writes_are ∙ p.first.writes ∙ ready.writes;
+        };
+        line = goes.line;
+        boundaries = goes.boundaries;
+        made = makes_both rack (IsCallBelow (boundaries_of a)) (below_of a) (rack_in mid) (below_of b) p.first.made
+            (subst (λ (r : R). Makes rack (IsCallBelow (boundaries_of a)) r (below_of b)) p.same p.second.made);
+        tells = λ q told. p.first.tells q (subst (λ (r : R). IsSome (rack.bytes r q)) p.same (p.second.tells q told));
+      }
+
+  -- where memory was wanting for that
+  pub continues_wanting : (a b : Array (LiveRack R)) → IsReady rack a → GoesOn any_phase (live rack) a.volume b.volume → KeepsOrLeaves (live rack) live_count DropsBoundaries a.volume b.volume
+      → Continues rack a b
+  continues_wanting a b ready goes (inl kept) = continues_by a b ready kept.0
+  continues_wanting a b ready goes (inr out) = continues_out a b ready goes out.out out.live_is
+
+  -- what is told in the end of the first line's members was told of the members that were in use
+  pub told_mid : (a b : Array (LiveRack R)) → IsReady rack a → (goes : GoesOn any_phase (live rack) a.volume b.volume)
+      → (out : TakesOut (live rack) live_count DropsBoundaries a.volume.store b.volume.store) → live_of b ≡ map (boundary_at (live_of a)) (left_in out.mid) → TellsLine rack b
+      → (q : ℕ) → q / 2 < (stores.shape_of out.mid).b → (live rack).tells (stores.rack_of out.mid) q
+  told_mid a b ready goes out is tells q below there =
+      let mid = stores.rack_of out.mid in
+      let p = parts_of a b ready goes out is in
+      let size : length (live_of a) ≡ (stores.shape_of out.mid).b = ready.sound.in_use.number ∙ sym (ap (λ s. s.b) out.opened.shape) in
+      let place : q / 2 < length (live_of a) = omega (arith, below, size) in
+      let begins : Begins (live_of a) mid = begins_on (live_of a) (live_of a) (rack_of a) mid p.first.live_is refl (begins_of a ready) in
+      let number : slice_index (live_in mid) (q / 2) ≡ slice_index (live_of a) (q / 2) = begins.places (q / 2) place in
+      let low : slice_index (live_of a) (q / 2) < boundaries_of a = All-get_or (λ s. s < boundaries_of a) (live_of a) (q / 2) 0 place ready.sound.in_use.live.within in
+      let here : member_at (live_in mid) q / 2 < boundaries_of b = omega (arith, number, low, goes.boundaries) in
+      subst (λ (r : R). rack.tells r (member_at (live_in mid) q)) p.same
+      (told_before (IsCallBelow (boundaries_of a)) (rack_in (stores.rack_of out.left)) (below_of b) p.second.made (member_at (live_in mid) q) (tells (member_at (live_in mid) q) here))

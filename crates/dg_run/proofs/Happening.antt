@@ -1,0 +1,252 @@
+-- Events on an array of the boundaries in use are steps from one moment to the next.
+use Rattle.std.proofs.Common.{◌≡◌, ◌⊎◌, ◌∙◌, ◌+◌, ◌*◌, ◌/◌, ◌%◌, ◌<◌, ℕ, true, List, [], ◌∷◌, ◌++◌, ap, arith, inl, inr, length, slice_index, refl, subst, sym}
+use Rattle.std.specs.Prelude.{Option, Result, Ok, Err, OnOk}
+use Rattle.dg_io.specs.RackCalls.{RackCall}
+use Rattle.dg_io.specs.RackWords.{After}
+use Rattle.dg_io.specs.declared.outside.Rack.{Ghosts}
+use Rattle.dg_model.proofs.KnownLaws.{step_less}
+use Rattle.std.proofs.lemmas.List.FromFn.{get_or-range_with_len, length-range_with_len}
+use Rattle.dg_model.specs.Lives.{all_live, member_at}
+use Rattle.dg_model.specs.Moments.{AreCountsOf, Happens, History, IsAllowed, Kind, Moment}
+use Rattle.dg_model.specs.Moments.Kind.{plain}
+use Rattle.dg_model.specs.States.{State}
+use Rattle.dg_model.specs.Steps.{IsReduced, Step}
+use Rattle.dg_model.specs.declared.events.Event.{Event}
+use Rattle.dg_model.specs.declared.events.Event.TheVariants.{Array, Safe, Parity, Write, Read, Fail, Replace, Rebuild, Settle, Tend, Diffuse, Who, Pending, Cat, Ls, Tree, Home, Save, Regroup, LostFiles, Audit, DropDisk, MendDisk}
+use Rattle.dg_model.specs.declared.replies.Reply.{Reply}
+use Rattle.dg_model.specs.declared.replies.Reply.TheVariants.{Lost, NotParity, Saved}
+use Rattle.dg_regroup.specs.LiveGhosts.{live}
+use Rattle.dg_regroup.specs.LiveRacks.{is_there, live_counts, live_in}
+use Rattle.dg_regroup.specs.declared.live_racks.LiveRack.{LiveRack}
+use Rattle.dg_run.proofs.Continuing.{rises, told_volume}
+use Rattle.dg_run.proofs.Segments.{by_place, there_by}
+use Rattle.dg_run.specs.Histories.{Continues, EventAnswered, EventCut, EventDone, EventListed, EventWanted, IsReady, KnownBy, RunsTo, VolumeRunsTo, below_of, boundaries_of, live_of, moment_of}
+use Rattle.dg_run.specs.Plain.{IsOfPairs}
+use Rattle.dg_run.specs.Replays.{HoldsInUse}
+use Rattle.dg_run.specs.Steps.{Answered, AnsweredBefore, AnsweredPart, Known, ListedBefore, StandsIn, StepsTo, VolumeStepsTo, WantedFor, rack_of}
+use Rattle.dg_run.specs.declared.arrays.Array as arrays
+use Rattle.dg_store.specs.Leaves.{IsCallBelow}
+use Rattle.dg_volume.specs.HeldLaws.{holds_all}
+use Rattle.dg_volume.specs.Volumes.{any_phase}
+use Rattle.dg_volume.specs.Volumes as volumes
+
+-- ---- what a history takes over
+
+pub happens_less : {K J : Type 0} (w : J → K) (kind : Kind) (old : Moment) (event : Event) (reply : Reply) (new : Moment) → Happens K kind old event reply new → Happens J kind old event reply new
+happens_less w kind old event reply new h = record { step = step_less w old.state event reply new.state h.step; allowed = h.allowed; rise = h.rise; tied = h.tied }
+
+pub history_less : {K J : Type 0} (w : J → K) (kind : Kind) (old : Moment) (events : List Event) (replies : List Reply) (new : Moment) → History K kind old events replies new
+    → History J kind old events replies new
+history_less w kind old [] [] new h = h
+history_less w kind old [] (reply ∷ replies) new h = absurd h
+history_less w kind old (event ∷ events) [] new h = absurd h
+history_less w kind old (event ∷ events) (reply ∷ replies) new h = (h.0, happens_less w kind old event reply h.0 h.1, history_less w kind h.0 events replies new h.2)
+
+pub history_both : (K : Type 0) (kind : Kind) (old : Moment) (events : List Event) (replies : List Reply) (mid : Moment) (more : List Event) (others : List Reply) (new : Moment)
+    → History K kind old events replies mid → History K kind mid more others new → History K kind old (events ++ more) (replies ++ others) new
+history_both K kind old [] [] mid more others new first second = subst (λ (m : Moment). History K kind m more others new) first second
+history_both K kind old [] (reply ∷ replies) mid more others new first second = absurd first
+history_both K kind old (event ∷ events) [] mid more others new first second = absurd first
+history_both K kind old (event ∷ events) (reply ∷ replies) mid more others new first second = (first.0, first.1, history_both K kind first.0 events replies mid more others new first.2 second)
+
+-- ---- what mirrored pairs answer
+
+-- an array in this state answers as one without a checkpoint and without disks
+abbrev pub AnswersPairs : State → Event → Reply → Type 0
+AnswersPairs state Save (Saved q) = IsReduced state → ⊥
+AnswersPairs state Save (Lost s) = IsReduced state → ⊥
+AnswersPairs state (DropDisk s j) reply = reply ≡ NotParity
+AnswersPairs state (MendDisk s j) reply = reply ≡ NotParity
+AnswersPairs state event reply = Unit {0}
+
+pub allowed_of : (old new : Moment) (event : Event) (reply : Reply) → AnswersPairs old.state event reply → IsAllowed plain old event reply new
+allowed_of old new (Array s) NotParity h = tt
+allowed_of old new (Array s) reply h = tt
+allowed_of old new (Safe s) NotParity h = tt
+allowed_of old new (Safe s) reply h = tt
+allowed_of old new (Parity s n) NotParity h = tt
+allowed_of old new (Parity s n) reply h = tt
+allowed_of old new (Write b x) NotParity h = tt
+allowed_of old new (Write b x) reply h = tt
+allowed_of old new (Read b) NotParity h = tt
+allowed_of old new (Read b) reply h = tt
+allowed_of old new (Fail s j) NotParity h = tt
+allowed_of old new (Fail s j) reply h = tt
+allowed_of old new (Replace s j) NotParity h = tt
+allowed_of old new (Replace s j) reply h = tt
+allowed_of old new (Rebuild s n) NotParity h = tt
+allowed_of old new (Rebuild s n) reply h = tt
+allowed_of old new Settle NotParity h = tt
+allowed_of old new Settle reply h = tt
+allowed_of old new (Tend n) NotParity h = tt
+allowed_of old new (Tend n) reply h = tt
+allowed_of old new Diffuse NotParity h = tt
+allowed_of old new Diffuse reply h = tt
+allowed_of old new (Who b) NotParity h = tt
+allowed_of old new (Who b) reply h = tt
+allowed_of old new Pending NotParity h = tt
+allowed_of old new Pending reply h = tt
+allowed_of old new (Cat p) NotParity h = tt
+allowed_of old new (Cat p) reply h = tt
+allowed_of old new (Ls p) NotParity h = tt
+allowed_of old new (Ls p) reply h = tt
+allowed_of old new Tree NotParity h = tt
+allowed_of old new Tree reply h = tt
+allowed_of old new (Home p) NotParity h = tt
+allowed_of old new (Home p) reply h = tt
+allowed_of old new Regroup NotParity h = tt
+allowed_of old new Regroup reply h = tt
+allowed_of old new LostFiles NotParity h = tt
+allowed_of old new LostFiles reply h = tt
+allowed_of old new Audit NotParity h = tt
+allowed_of old new Audit reply h = tt
+allowed_of old new Save (Saved q) h = h
+allowed_of old new Save (Lost s) h = h
+allowed_of old new Save NotParity h = tt
+allowed_of old new Save reply h = tt
+allowed_of old new (DropDisk s j) reply h = subst (λ (r : Reply). IsAllowed plain old (DropDisk s j) r new) (sym h) tt
+allowed_of old new (MendDisk s j) reply h = subst (λ (r : Reply). IsAllowed plain old (MendDisk s j) r new) (sym h) tt
+
+module _ {R : Type 0} (rack : Ghosts R) (none : (s : R) → rack.made s [] s) (both : (a b c : R) (x y : List RackCall) → rack.made a x b → rack.made b y c → rack.made a (x ++ y) c)
+    (law : (a b : R) (made : List RackCall) → rack.made a made b → After rack made a b) where
+  -- the counts of the members in use are those of the rack below
+  tied_at : (b : arrays.Array (LiveRack R)) → IsReady rack b → AreCountsOf (live_of b) (rack.counts (below_of b)) (live_counts rack (rack_of b))
+  tied_at b ready = record {
+    faults = λ q low.
+        let there : is_there (live_in (rack_of b)) q ≡ true = there_by (live_in (rack_of b)) q (omega (arith, low, ready.longer)) in
+        rw there (ap (λ (n : ℕ). (rack.counts (below_of b)).faults (2 * n + q % 2)) (ready.places (q / 2) low));
+    calls = omega (arith, ready.calls);
+    writes = omega (arith, ready.writes);
+  }
+
+  pub tied_in : {P : Type 0} (b : arrays.Array (LiveRack R)) (state : State) → IsReady rack b → volumes.StandsIn any_phase (live rack) P b.volume state
+      → AreCountsOf state.live (rack.counts (below_of b)) state.counts
+  tied_in b state ready stands = subst (λ (s : State). AreCountsOf s.live (rack.counts (below_of b)) s.counts) (sym stands.is) (tied_at b ready)
+
+  pub happens : {P Q : Type 0} (a b : arrays.Array (LiveRack R)) (event : Event) (reply : Reply) (state next : State) → Continues rack a b
+      → volumes.StandsIn any_phase (live rack) Q b.volume next → IsAllowed plain (moment_of rack a state) event reply (moment_of rack b next) → Step P state event reply next
+      → Happens P plain (moment_of rack a state) event reply (moment_of rack b next)
+  happens a b event reply state next goes stands allowed step = record {
+    step = step;
+    allowed = allowed;
+    rise = rises rack none both law (IsCallBelow (boundaries_of a)) (below_of a) (below_of b) goes.made;
+    tied = tied_in b next goes.ready stands;
+  }
+
+  -- what is known by the line is known of the volume
+  known_of : {P : Type 0} (b : arrays.Array (LiveRack R)) → IsReady rack b → KnownBy P rack b → Known P (live rack) b
+  known_of b ready known = (told_volume rack none both law b ready known.0, known.1)
+
+  pairs_in : {P : Type 0} (a : arrays.Array (LiveRack R)) (state : State) (event : Event) (reply : Reply) → StandsIn (live rack) P a state → IsOfPairs a event reply → AnswersPairs state event reply
+  pairs_in a state event reply stands = by event reply where
+    reduced : IsReduced state → length (live_of a) < boundaries_of a
+    reduced less = subst (λ (s : State). length s.live < s.boundaries) stands.volume.is less
+
+    by : (e : Event) (r : Reply) → IsOfPairs a e r → AnswersPairs state e r
+    by (Array s) r h = tt
+    by (Safe s) r h = tt
+    by (Parity s n) r h = tt
+    by (Write b x) r h = tt
+    by (Read b) r h = tt
+    by (Fail s j) r h = tt
+    by (Replace s j) r h = tt
+    by (Rebuild s n) r h = tt
+    by Settle r h = tt
+    by (Tend n) r h = tt
+    by Diffuse r h = tt
+    by (Who b) r h = tt
+    by Pending r h = tt
+    by (Cat p) r h = tt
+    by (Ls p) r h = tt
+    by Tree r h = tt
+    by (Home p) r h = tt
+    by Regroup r h = tt
+    by LostFiles r h = tt
+    by Audit r h = tt
+    by Save (Saved q) h = λ less. h (reduced less)
+    by Save (Lost s) h = λ less. h (reduced less)
+    by Save r h = tt
+    by (DropDisk s j) r h = h
+    by (MendDisk s j) r h = h
+
+  pub runs_of : (a b : arrays.Array (LiveRack R)) (event : Event) (reply : Reply) → Continues rack a b → IsOfPairs a event reply → StepsTo (live rack) a event reply b
+      → RunsTo rack a (event ∷ []) (reply ∷ []) b
+  runs_of a b event reply goes pairs steps origin state st =
+      let one = steps origin state st in
+      let allowed = allowed_of (moment_of rack a state) (moment_of rack b one.0) event reply (pairs_in a state event reply st pairs) in
+      record {
+        after = origin;
+        next = one.0;
+        stands = one.1;
+        known = λ tells held. held;
+        history = (moment_of rack b one.0, happens a b event reply state one.0 goes one.1.volume allowed (step_less (known_of b goes.ready) state event reply one.0 one.2), refl);
+      }
+
+  pub volume_runs_of : (a b : arrays.Array (LiveRack R)) (event : Event) (reply : Reply) → Continues rack a b → IsOfPairs a event reply → VolumeStepsTo (live rack) a event reply b
+      → VolumeRunsTo rack a (event ∷ []) (reply ∷ []) b
+  volume_runs_of a b event reply goes pairs steps origin state st =
+      let one = steps origin state st in
+      let allowed = allowed_of (moment_of rack a state) (moment_of rack b one.0) event reply (pairs_in a state event reply st pairs) in
+      record {
+        after = origin;
+        next = one.0;
+        stands = one.1;
+        known = λ tells held. held;
+        history = (moment_of rack b one.0, happens a b event reply state one.0 goes one.1 allowed (step_less (known_of b goes.ready) state event reply one.0 one.2), refl);
+      }
+
+  pub weaker_runs : (a b : arrays.Array (LiveRack R)) (events : List Event) (replies : List Reply) → RunsTo rack a events replies b → VolumeRunsTo rack a events replies b
+  weaker_runs a b events replies runs origin state st =
+      let one = runs origin state st in
+      record { after = one.after; next = one.next; stands = one.stands.volume; known = one.known; history = one.history }
+
+  -- ---- what members hold
+
+  -- where all boundaries are in use, each of the first members is at its own place
+  own_place : (q : ℕ) → q < 32 → (is_there (all_live 16) q ≡ true) × (member_at (all_live 16) q ≡ q)
+  own_place q low =
+      let number : slice_index (all_live 16) (q / 2) ≡ 0 + q / 2 = get_or-range_with_len 0 16 (q / 2) 0 (omega (arith, low)) in
+      (there_by (all_live 16) q (omega (arith, low, length-range_with_len 0 16)), omega (arith, number))
+
+  seen_whole : (b : arrays.Array (LiveRack R)) → (live_in (rack_of b) ≡ all_live 16) ⊎ (length (live_of b) < boundaries_of b) → length (live_of b) ≡ boundaries_of b → (q : ℕ) → q < 32
+      → (live rack).bytes (rack_of b) q ≡ rack.bytes (below_of b) q
+  seen_whole b (inl all) same q low =
+      let own = own_place q low in
+      by_place rack none both law (rack_of b) q q (subst (λ (l : List ℕ). is_there l q ≡ true) (sym all) own.0) (sym own.1 ∙ ap (λ (l : List ℕ). member_at l q) (sym all))
+  seen_whole b (inr less) same q low = absurd (omega (arith, less, same))
+
+  pub holds_in_use : {P : Type 0} (b : arrays.Array (LiveRack R)) (state : State) → IsReady rack b → volumes.StandsIn any_phase (live rack) P b.volume state → KnownBy P rack b
+      → HoldsInUse (rack.bytes (below_of b)) state
+  holds_in_use {P = P} b state ready stands known =
+      let same : state.live ≡ live_of b = ap (λ (s : State). s.live) stands.is in
+      let line : state.boundaries ≡ boundaries_of b = ap (λ (s : State). s.boundaries) stands.is in
+      record {
+        seen = (live rack).bytes (rack_of b);
+        at = λ q low.
+            let place : q / 2 < length (live_of b) = subst (λ (l : List ℕ). q / 2 < length l) same low in
+            by_place rack none both law (rack_of b) q (member_at state.live q) (there_by (live_in (rack_of b)) q (omega (arith, place, ready.longer)))
+            (ap (λ (n : ℕ). 2 * n + q % 2) (ap (λ (l : List ℕ). slice_index l (q / 2)) same ∙ sym (ready.places (q / 2) place)));
+        whole = λ all q low. seen_whole b ready.whole (sym (ap length same) ∙ all ∙ line) q low;
+        holds = holds_all (live rack) b.volume any_phase state ready.sound stands (known_of b ready known);
+      }
+
+  -- ---- answers
+
+  module _ (event : Event) (taken given : Option (List ℕ)) (a b : arrays.Array (LiveRack R)) (goes : Continues rack a b) (pairs : (reply : Reply) → IsOfPairs a event reply) where
+    pub event_answered : {T E : Type 0} (result : Result T E) → OnOk result (Answered (live rack) event taken given a b) → OnOk result (EventAnswered rack event taken given a b)
+    event_answered (Ok done) h = record { reply = h.reply; runs = runs_of a b event h.reply goes (pairs h.reply) h.steps; output = h.output }
+    event_answered (Err fault) h = tt
+
+    pub event_cut : AnsweredPart (live rack) event taken given a b → EventCut rack event taken given a b
+    event_cut h = record { reply = h.reply; runs = volume_runs_of a b event h.reply goes (pairs h.reply) h.steps; output = h.output }
+
+    event_done : AnsweredBefore (live rack) event taken given a b → EventDone rack event taken given a b
+    event_done h = record { reply = h.reply; runs = volume_runs_of a b event h.reply goes (pairs h.reply) h.steps; output = h.output }
+
+    event_listed : ListedBefore (live rack) event taken given a b → EventListed rack event taken given a b
+    event_listed h = record { reply = h.reply; text = h.text; lines = h.lines; runs = volume_runs_of a b event h.reply goes (pairs h.reply) h.steps; output = h.output }
+
+    pub event_wanted : WantedFor (live rack) event taken given a b → EventWanted rack event taken given a b
+    event_wanted (inl none) = inl none
+    event_wanted (inr (inl done)) = inr (inl (event_done done))
+    event_wanted (inr (inr listed)) = inr (inr (event_listed listed))

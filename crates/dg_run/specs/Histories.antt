@@ -1,0 +1,144 @@
+-- An array of the boundaries in use beside the model's moments: the state that it is in, and the rack that these boundaries stand on.
+use Rattle.std.specs.Prelude.{◌≡◌, ◌⊎◌, ◌<◌, ◌≤◌, ◌/◌, ◌∷◌, [], ℕ, false, List, Option, length, slice_index}
+use Rattle.dg_io.specs.Makes.{Makes}
+use Rattle.dg_io.specs.Told.{StillTold, Told, Took, TookPart}
+use Rattle.dg_io.specs.declared.outside.Rack.{Ghosts}
+use Rattle.dg_model.specs.Lives.{all_live}
+use Rattle.dg_model.specs.Moments.{History, Makes as MakesArray, Moment}
+use Rattle.dg_model.specs.Moments.Kind.{plain}
+use Rattle.dg_model.specs.States.{State}
+use Rattle.dg_model.specs.declared.events.Event.{Event}
+use Rattle.dg_model.specs.declared.events.Event.TheVariants.{Array as MakeArray}
+use Rattle.dg_model.specs.declared.replies.Reply.{Reply}
+use Rattle.dg_model.specs.declared.shapes.Shape.{Shape}
+use Rattle.dg_regroup.specs.LivePassing.{own_calls, own_writes}
+use Rattle.dg_regroup.specs.LiveGhosts.{live}
+use Rattle.dg_regroup.specs.LiveRacks.{live_in, rack_in}
+use Rattle.dg_regroup.specs.declared.live_racks.LiveRack.{LiveRack}
+use Rattle.dg_run.specs.Steps.{BeginsLines, IsSound, StandsIn, rack_of, shape_of}
+use Rattle.dg_run.specs.declared.arrays.Array.{Array}
+use Rattle.dg_store.specs.Leaves.{IsCallBelow}
+use Rattle.dg_text.specs.Replies.{reply_line}
+use Rattle.dg_volume.specs.Origins.{Origin, WasHeld}
+use Rattle.dg_volume.specs.Origins.Origin.{nothing}
+use Rattle.dg_volume.specs.Volumes.{any_phase}
+use Rattle.dg_volume.specs.Volumes as volumes
+
+-- ---- parts
+
+-- the boundaries of its first line
+abbrev pub boundaries_of : {R : Type 0} → Array (LiveRack R) → ℕ
+boundaries_of array = (volumes.reduced_of array.volume).boundaries
+
+-- the numbers of those in use
+abbrev pub live_of : {R : Type 0} → Array (LiveRack R) → List ℕ
+live_of array = volumes.live_of array.volume
+
+-- the rack that they stand on
+abbrev pub below_of : {R : Type 0} → Array (LiveRack R) → R
+below_of array = rack_in (rack_of array)
+
+-- of each member of the first line's boundaries that rack tells the bytes as long as the member stands
+abbrev pub TellsLine : {R : Type 0} → Ghosts R → Array (LiveRack R) → Type 0
+TellsLine rack array = (p : ℕ) → p / 2 < boundaries_of array → rack.tells (below_of array) p
+
+-- what is known of its blocks is known where this is so, and something else
+abbrev pub KnownBy : {R : Type 0} → Type 0 → Ghosts R → Array (LiveRack R) → Type 0
+KnownBy P rack array = TellsLine rack array × P
+
+-- What holds between events: all is well with the array, its boundaries in use are the first of its rack, which has all 16 that there may be as long as
+-- none was taken out of use; and no call was made on a member that isn't there.
+pub record IsReady {R : Type 0} (rack : Ghosts R) (array : Array (LiveRack R)) : Type 0 where
+  pub sound : IsSound (live rack) array
+  pub longer : length (live_of array) ≤ length (live_in (rack_of array))
+  pub places : (x : ℕ) → x < length (live_of array) → slice_index (live_in (rack_of array)) x ≡ slice_index (live_of array) x
+  pub whole : (live_in (rack_of array) ≡ all_live 16) ⊎ (length (live_of array) < boundaries_of array)
+  pub calls : own_calls (rack_of array) ≡ 0
+  pub writes : own_writes (rack_of array) ≡ 0
+
+-- What any event leaves of it: an array of the same first line, ready for the next one. On the rack below calls were made on members of that line's
+-- boundaries alone, none of which looks for one; and what that tells it told before.
+pub record Continues {R : Type 0} (rack : Ghosts R) (old new : Array (LiveRack R)) : Type 0 where
+  pub ready : IsReady rack new
+  pub line : volumes.line_of new.volume ≡ volumes.line_of old.volume
+  pub boundaries : boundaries_of new ≡ boundaries_of old
+  pub made : Makes rack (IsCallBelow (boundaries_of old)) (below_of old) (below_of new)
+  pub tells : StillTold (rack.bytes (below_of old)) (rack.bytes (below_of new))
+
+-- ---- moments
+
+-- the state, and the counts of the rack below
+abbrev pub moment_of : {R : Type 0} → Ghosts R → Array (LiveRack R) → State → Moment
+moment_of rack array state = record { state = state; beneath = record { counts = rack.counts (below_of array); out = λ d. false } }
+
+-- From a state of an array these events led to another one, in which it stands now, with these replies. That it stood for the first state's blocks may
+-- rest on something, and that it stands for the last one's on that and on what members told that are no more in use.
+pub record Leads {R : Type 0} (rack : Ghosts R) (Stands : Type 0 → State → Type 0) (origin : Origin (LiveRack R)) (state : State)
+    (old new : Array (LiveRack R)) (events : List Event) (replies : List Reply) : Type 0 where
+  pub after : Origin (LiveRack R)
+  pub next : State
+  pub stands : Stands (WasHeld (live rack) after) next
+  pub known : TellsLine rack new → WasHeld (live rack) origin → WasHeld (live rack) after
+  pub history : History (KnownBy (WasHeld (live rack) origin) rack new) plain (moment_of rack old state) events replies (moment_of rack new next)
+
+-- Whichever state the array was in, these events led on from it.
+abbrev pub RunsTo : {R : Type 0} → Ghosts R → Array (LiveRack R) → List Event → List Reply → Array (LiveRack R) → Type 0
+RunsTo {R = R} rack old events replies new = (origin : Origin (LiveRack R)) (state : State) → StandsIn (live rack) (WasHeld (live rack) origin) old state
+    → Leads rack (λ P next. StandsIn (live rack) P new next) origin state old new events replies
+
+-- the same, but nothing is said of the inodes that were read last
+abbrev pub VolumeRunsTo : {R : Type 0} → Ghosts R → Array (LiveRack R) → List Event → List Reply → Array (LiveRack R) → Type 0
+VolumeRunsTo {R = R} rack old events replies new = (origin : Origin (LiveRack R)) (state : State) → StandsIn (live rack) (WasHeld (live rack) origin) old state
+    → Leads rack (λ P next. volumes.StandsIn any_phase (live rack) P new.volume next) origin state old new events replies
+
+-- the same, but nothing is said of what the array stands for now
+abbrev pub RunsBefore : {R : Type 0} → Ghosts R → Array (LiveRack R) → List Event → List Reply → Array (LiveRack R) → Type 0
+RunsBefore {R = R} rack old events replies now = (origin : Origin (LiveRack R)) (state : State) → StandsIn (live rack) (WasHeld (live rack) origin) old state
+    → (next : Moment) × (next.state.boundaries ≡ boundaries_of now)
+    × History (KnownBy (WasHeld (live rack) origin) rack now) plain (moment_of rack old state) events replies next
+
+-- ---- answers
+
+-- the event was done, and its reply was written
+pub record EventAnswered {R : Type 0} (rack : Ghosts R) (event : Event) (taken given : Option (List ℕ)) (old new : Array (LiveRack R)) : Type 0 where
+  pub reply : Reply
+  pub runs : RunsTo rack old (event ∷ []) (reply ∷ []) new
+  pub output : Told (Took (reply_line reply)) taken given
+
+-- the event was done, and a part of its reply was written
+pub record EventCut {R : Type 0} (rack : Ghosts R) (event : Event) (taken given : Option (List ℕ)) (old new : Array (LiveRack R)) : Type 0 where
+  pub reply : Reply
+  pub runs : VolumeRunsTo rack old (event ∷ []) (reply ∷ []) new
+  pub output : Told (TookPart (reply_line reply)) taken given
+
+-- the event was done and its reply was written, and behind it memory was wanting
+pub record EventDone {R : Type 0} (rack : Ghosts R) (event : Event) (taken given : Option (List ℕ)) (old now : Array (LiveRack R)) : Type 0 where
+  pub reply : Reply
+  pub runs : VolumeRunsTo rack old (event ∷ []) (reply ∷ []) now
+  pub output : Told (Took (reply_line reply)) taken given
+
+-- of a listing that may answer the event the first lines were written, and behind them memory was wanting
+pub record EventListed {R : Type 0} (rack : Ghosts R) (event : Event) (taken given : Option (List ℕ)) (old now : Array (LiveRack R)) : Type 0 where
+  pub reply : Reply
+  pub text : List ℕ
+  pub lines : BeginsLines event reply text
+  pub runs : VolumeRunsTo rack old (event ∷ []) (reply ∷ []) now
+  pub output : Told (Took text) taken given
+
+-- memory was wanting for an event: before its reply, of which nothing was written, behind it, or between two lines of it
+abbrev pub EventWanted : {R : Type 0} → Ghosts R → Event → Option (List ℕ) → Option (List ℕ) → Array (LiveRack R) → Array (LiveRack R) → Type 0
+EventWanted rack event taken given old now =
+    (given ≡ taken) ⊎ (EventDone rack event taken given old now ⊎ EventListed rack event taken given old now)
+
+-- ---- a blank array
+
+-- An array of this shape, over a rack that was so before: it is in the state of the blank array, and calls were made on its members alone.
+pub record IsBlankReady {R : Type 0} (rack : Ghosts R) (shape : Shape) (before : R) (array : Array (LiveRack R)) : Type 0 where
+  pub ready : IsReady rack array
+  pub shape_is : shape_of array ≡ shape
+  pub boundaries : boundaries_of array ≡ shape.b
+  pub made : Makes rack (IsCallBelow shape.b) before (below_of array)
+  pub tells : StillTold (rack.bytes before) (rack.bytes (below_of array))
+  pub state : State
+  pub makes : MakesArray plain (MakeArray shape) shape (rack.counts before) (moment_of rack array state)
+  pub stands : StandsIn (live rack) (WasHeld (live rack) nothing) array state
