@@ -1,32 +1,46 @@
 -- Lines that are served break off.
-use Rattle.std.proofs.Common.{◌≡◌, ◌≤◌, ◌-◌, ◌^◌, ℕ, List, [], ◌∷◌, ◌++◌, length, take, sym, ◌∙◌, ap, subst, arith, append_assoc, length-append, inl, inr}
+use Rattle.std.proofs.Common.{◌≡◌, ◌≤◌, ◌+◌, ◌-◌, ◌^◌, ℕ, List, [], ◌∷◌, ◌++◌, length, take, sym, ◌∙◌, ap, subst, arith, append_assoc, length-append, inl, inr}
 use Rattle.std.specs.Prelude.{◌⊎◌, Option, Some, None}
 use Rattle.std.specs.Option.{option_map}
 use Rattle.std.proofs.lemmas.List.{append-nil}
 use Rattle.std.proofs.lemmas.List.Concat.{flat_map-append}
 use Rattle.std.proofs.lemmas.List.Elements.{All-append}
 use Rattle.dg_io.specs.declared.outside.Rack.{Ghosts}
-use Rattle.dg_io.specs.Told.{AreAny, Told, Took, TookPart}
+use Rattle.dg_io.specs.Told.{Told, Took, TookPart}
 use Rattle.dg_model.specs.declared.shapes.Shape.{Shape}
 use Rattle.dg_model.specs.declared.events.Event.{Event}
 use Rattle.dg_run.specs.declared.arrays.Array.{Array}
 use Rattle.dg_run.specs.Histories.{EventDone, EventListed, EventWanted, TellsLine, boundaries_of}
 use Rattle.dg_regroup.specs.declared.live_racks.LiveRack.{LiveRack}
-use Rattle.dg_text.specs.Lines.{line_of, input_of, IsInPlace}
+use Rattle.dg_text.specs.Lines.{line_of, input_of, longest, IsInPlace}
 use Rattle.dg_text.specs.Replies.{output_of, reply_line}
 use Rattle.dg_text.specs.ToldSteps.{took_both}
-use Rattle.dg_run.specs.Endings.{GaveLines, StartsWith, TookUpTo, LinesBrokeOff, LinesCut, LinesListed, LinesRanOut, LinesWanted, RanOutAt, ServedLinePart, WantedLine}
+use Rattle.dg_run.specs.Endings.{GaveLines, StartsWith, StopsBefore, TookUpTo, LinesBrokeOff, LinesCut, LinesDone, LinesListed, LinesRanOut, LinesWanted, RanOutAt, ServedLinePart, WantedLine}
 use Rattle.dg_run.specs.Events.{Begins}
+use Rattle.dg_run.specs.Inputs.{AwaitsLine, BeginsWithLine}
 use Rattle.dg_run.specs.Lines.{BeginsAll}
 use Rattle.dg_run.proofs.Inputs.{All-one}
 use Rattle.dg_run.proofs.Runs.{SoFar, output_more, runs_before, volume_runs_before, volume_runs_more}
-use Rattle.dg_run.proofs.ToldSteps.{Told-then, any_left}
+use Rattle.dg_run.proofs.ToldSteps.{Told-then}
 
 -- the line of an event was taken, and the source has so much left
 pub starts_left : (shape : Option Shape) (event : Event) (unread : List ℕ) (x y : Option (List ℕ)) → Told (Begins shape event) x (option_map (λ more. unread ++ more) y) → Told (StartsWith (line_of event)) x y
 starts_left shape event unread x None told = tt
 starts_left shape event unread None (Some b) told = absurd told
 starts_left shape event unread (Some a) (Some b) told = record { more = unread ++ b; split = told.line }
+
+-- such a line is next, and the source has so much left
+pub awaits_left : (most room : ℕ) (unread : List ℕ) (x y : Option (List ℕ)) → Told (BeginsWithLine most room) x (option_map (λ more. unread ++ more) y) → Told (AwaitsLine most room) x y
+awaits_left most room unread x None told = tt
+awaits_left most room unread None (Some b) told = absurd told
+awaits_left most room unread (Some a) (Some b) told = (unread ++ b, told)
+
+-- a line is next behind those that a text begins with
+stops_before : (shape : Option Shape) (most room left : ℕ) (es : List Event) (x y z : Option (List ℕ)) → room ≡ left → Told (BeginsAll shape es) x y → Told (AwaitsLine most room) y z
+    → Told (StopsBefore most left (input_of es)) x z
+stops_before shape most room left es x y z same first second =
+    subst (λ (n : ℕ). Told (StopsBefore most n (input_of es)) x z) same
+    (Told-then (BeginsAll shape es) (AwaitsLine most room) (StopsBefore most room (input_of es)) (λ p q r f s. record { more = q; split = f.lines; next = s }) x y z first second)
 
 more_lines : (es : List Event) (e : Event) → input_of (es ++ e ∷ []) ≡ input_of es ++ line_of e
 more_lines es e = flat_map-append line_of es (e ∷ []) ∙ ap (λ (l : List ℕ). input_of es ++ l) (append-nil (line_of e))
@@ -83,21 +97,23 @@ module _ {R : Type 0} (rack : Ghosts R) where
       }
 
   lines_ran_out : (shape : Shape) (first from passed number : ℕ) (x y z t u v : Option (List ℕ)) (a b c : Array (LiveRack R)) → passed ≤ 2 ^ 40 → SoFar rack shape first from passed number x y t u a b
-      → Told AreAny y z → v ≡ u → boundaries_of c ≡ boundaries_of b → (TellsLine rack c → TellsLine rack b) → LinesWanted rack [] shape first x z t v a c
+      → Told (AwaitsLine (longest (Some shape)) (2 ^ 40 - passed)) y z → v ≡ u → boundaries_of c ≡ boundaries_of b → (TellsLine rack c → TellsLine rack b)
+      → LinesWanted rack [] shape first x z t v a c
   lines_ran_out shape first from passed number x y z t u v a b c budget was told kept same tells = record {
     events = was.events;
     replies = was.served.replies;
     in_place = was.served.in_place;
     budget = omega (arith, was.passed_is);
     runs = runs_before rack a b c was.events was.served.replies was.served.runs same tells;
-    input = Told-then (BeginsAll (Some shape) was.events) AreAny (StartsWith (input_of was.events)) (λ p q o f s. record { more = q; split = f.lines }) x y z was.served.input told;
+    input = stops_before (Some shape) (longest (Some shape)) (2 ^ 40 - passed) (2 ^ 40 - (first + length (input_of was.events))) was.events x y z
+        (ap (λ (n : ℕ). 2 ^ 40 - n) was.passed_is) was.served.input told;
     output = subst (λ (o : Option (List ℕ)). Told (Took (output_of was.served.replies)) t o) (sym kept) was.served.output;
   }
 
   -- the reply of the last line was written whole
   ran_out_behind_reply : (shape : Shape) (first from passed number : ℕ) (x y z t u v : Option (List ℕ)) (a b c : Array (LiveRack R)) → passed ≤ 2 ^ 40 → SoFar rack shape first from passed number x y t u a b
       → (line : WantedLine rack shape (2 ^ 40 - passed) y z u v b c) → EventDone rack line.event u v b c → (TellsLine rack c → TellsLine rack b)
-      → LinesWanted rack [] shape first x z t v a c
+      → LinesDone rack [] shape first x z t v a c
   ran_out_behind_reply shape first from passed number x y z t u v a b c budget was line answered told =
       let es = was.events in
       let e = line.event in
@@ -105,8 +121,10 @@ module _ {R : Type 0} (rack : Ghosts R) where
       let r = answered.reply in
       let size = ap length (more_lines es e) in
       record {
-        events = es ++ e ∷ [];
+        events = es;
+        last = e;
         replies = rs ++ r ∷ [];
+        notes = answered.notes;
         in_place = All-append (IsInPlace (Some shape)) es (e ∷ []) was.served.in_place (All-one (IsInPlace (Some shape)) e line.in_place);
         budget = omega (arith, size, length-append (input_of es) (line_of e), was.passed_is, line.within);
         runs = volume_runs_before rack a c (es ++ e ∷ []) (rs ++ r ∷ []) (volume_runs_more rack a b c es rs e r was.served.runs answered.runs told);
@@ -142,9 +160,9 @@ module _ {R : Type 0} (rack : Ghosts R) where
       → (line : WantedLine rack shape (2 ^ 40 - passed) y z u v b c) → EventDone rack line.event u v b c ⊎ EventListed rack line.event u v b c
       → (TellsLine rack c → TellsLine rack b) → LinesRanOut rack [] shape first x z t v a c
   ran_out_by shape first from passed number x y z t u v a b c budget was line (inl answered) told =
-      inl (ran_out_behind_reply shape first from passed number x y z t u v a b c budget was line answered told)
+      inr (inl (ran_out_behind_reply shape first from passed number x y z t u v a b c budget was line answered told))
   ran_out_by shape first from passed number x y z t u v a b c budget was line (inr listed) told =
-      inr (ran_out_in_listing shape first from passed number x y z t u v a b c budget was line listed told)
+      inr (inr (ran_out_in_listing shape first from passed number x y z t u v a b c budget was line listed told))
 
   pub lines_ran_out_at : (shape : Shape) (first from passed number : ℕ) (x y z t u v : Option (List ℕ)) (a b c : Array (LiveRack R)) → passed ≤ 2 ^ 40 → SoFar rack shape first from passed number x y t u a b
       → RanOutAt rack shape (2 ^ 40 - passed) y z u v b c → boundaries_of c ≡ boundaries_of b → (TellsLine rack c → TellsLine rack b) → LinesRanOut rack [] shape first x z t v a c
@@ -155,10 +173,11 @@ module _ {R : Type 0} (rack : Ghosts R) where
 
   -- memory was wanting for the event of a line that was taken
   pub ran_out_of : (shape : Shape) (room : ℕ) (event : Event) (unread : List ℕ) (left rest taken given : Option (List ℕ)) (old now : Array (LiveRack R)) → IsInPlace (Some shape) event
-      → length (line_of event) ≤ room → Told (Begins (Some shape) event) left (option_map (λ more. unread ++ more) rest) → EventWanted rack event taken given old now
+      → length (line_of event) ≤ room → Told (Begins (Some shape) event) left (option_map (λ more. unread ++ more) rest)
+      → Told (BeginsWithLine (longest (Some shape)) room) left (option_map (λ more. unread ++ more) rest) → EventWanted rack event taken given old now
       → RanOutAt rack shape room left rest taken given old now
-  ran_out_of shape room event unread left rest taken given old now place within told (inl same) = inl (any_left (Begins (Some shape) event) unread left rest told, same)
-  ran_out_of shape room event unread left rest taken given old now place within told (inr answered) = inr (record {
+  ran_out_of shape room event unread left rest taken given old now place within told whole (inl same) = inl (awaits_left (longest (Some shape)) room unread left rest whole, same)
+  ran_out_of shape room event unread left rest taken given old now place within told whole (inr answered) = inr (record {
     event = event;
     in_place = place;
     within = within;
@@ -210,6 +229,19 @@ module _ {R : Type 0} (rack : Ghosts R) where
     output = took_both front (output_of lines.replies) t m v wrote lines.output;
   }
 
+  done_behind : (front : List ℕ) (shape : Shape) (first : ℕ) (x z t m v : Option (List ℕ)) (a b : Array (LiveRack R)) → Told (Took front) t m → LinesDone rack [] shape first x z m v a b → LinesDone rack front shape first x z t v a b
+  done_behind front shape first x z t m v a b wrote lines = record {
+    events = lines.events;
+    last = lines.last;
+    replies = lines.replies;
+    notes = lines.notes;
+    in_place = lines.in_place;
+    budget = lines.budget;
+    runs = lines.runs;
+    input = lines.input;
+    output = took_both front (output_of lines.replies) t m v wrote lines.output;
+  }
+
   listed_behind : (front : List ℕ) (shape : Shape) (first : ℕ) (x z t m v : Option (List ℕ)) (a b : Array (LiveRack R)) → Told (Took front) t m → LinesListed rack [] shape first x z m v a b → LinesListed rack front shape first x z t v a b
   listed_behind front shape first x z t m v a b wrote lines = record {
     events = lines.events;
@@ -227,4 +259,5 @@ module _ {R : Type 0} (rack : Ghosts R) where
 
   pub ran_out_behind : (front : List ℕ) (shape : Shape) (first : ℕ) (x z t m v : Option (List ℕ)) (a b : Array (LiveRack R)) → Told (Took front) t m → LinesRanOut rack [] shape first x z m v a b → LinesRanOut rack front shape first x z t v a b
   ran_out_behind front shape first x z t m v a b wrote (inl lines) = inl (wanted_behind front shape first x z t m v a b wrote lines)
-  ran_out_behind front shape first x z t m v a b wrote (inr lines) = inr (listed_behind front shape first x z t m v a b wrote lines)
+  ran_out_behind front shape first x z t m v a b wrote (inr (inl lines)) = inr (inl (done_behind front shape first x z t m v a b wrote lines))
+  ran_out_behind front shape first x z t m v a b wrote (inr (inr lines)) = inr (inr (listed_behind front shape first x z t m v a b wrote lines))

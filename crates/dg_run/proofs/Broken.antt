@@ -1,6 +1,6 @@
 -- A whole replay that breaks off: by a fault of the source, by a fault of the sink, or for want of memory.
-use Rattle.std.proofs.Common.{◌≡◌, ◌≤◌, ◌<◌, ◌+◌, ◌/◌, ◌^◌, ℕ, List, [], ◌∷◌, ◌++◌, length, take, refl, sym, ◌∙◌, ap, subst, arith, append_assoc, inl, inr, length-append}
-use Rattle.std.specs.Prelude.{Option, Some, None, All}
+use Rattle.std.proofs.Common.{◌≡◌, ◌≤◌, ◌<◌, ◌+◌, ◌-◌, ◌/◌, ◌^◌, ℕ, List, [], ◌∷◌, ◌++◌, length, take, refl, sym, ◌∙◌, ap, subst, arith, append_assoc, inl, inr, length-append}
+use Rattle.std.specs.Prelude.{Option, Some, None, All, Result, Ok, Err, OnErr}
 use Rattle.std.specs.Option.{option_map}
 use Rattle.std.proofs.lemmas.List.{append-nil}
 use Rattle.dg_io.specs.Told.{AreAny, Told, Took, TookPart}
@@ -16,12 +16,13 @@ use Rattle.dg_model.specs.declared.events.Event.{Event}
 use Rattle.dg_model.specs.declared.events.Event.TheVariants.{Array as MakeArray}
 use Rattle.dg_model.specs.declared.replies.Reply.TheVariants.{Done}
 use Rattle.dg_run.specs.declared.arrays.Array.{Array}
-use Rattle.dg_text.specs.Lines.{line_of, input_of, IsInPlace}
+use Rattle.dg_text.specs.Lines.{line_of, input_of, longest, IsInPlace}
 use Rattle.dg_text.specs.Replies.{output_of, refusal, reply_line}
 use Rattle.dg_run.specs.Arrays.{AnsweredToPart, ArrayCut, ArrayRanOut}
-use Rattle.dg_run.specs.Endings.{GaveLines, LinesBrokeOff, LinesCut, LinesListed, LinesWanted, StartsWith, TookUpTo}
+use Rattle.dg_run.specs.Endings.{GaveLines, LinesBrokeOff, LinesCut, LinesDone, LinesListed, LinesWanted, StartsWith, StopsBefore, TookUpTo}
 use Rattle.dg_run.specs.Events.{Begins}
-use Rattle.dg_run.specs.Replays.{BrokeOff, CutRefusal, CutReply, IsCut, RanOut, RanOutBetween, RanOutWithin, StopsAt, TellsBoundaries}
+use Rattle.dg_run.specs.Inputs.{AwaitsLine, BeginsWithLine}
+use Rattle.dg_run.specs.Replays.{BrokeOff, CutRefusal, CutReply, IsCut, RanOut, RanOutBefore, RanOutBehind, RanOutWithin, StopsAt, TellsBoundaries, WantsFirst}
 use Rattle.dg_run.specs.Histories.{Continues, IsBlankReady, KnownBy, VolumeRunsTo, below_of, boundaries_of, moment_of}
 use Rattle.dg_run.specs.Steps.{shape_of}
 use Rattle.dg_run.proofs.Happening.{history_less, weaker_runs}
@@ -54,19 +55,24 @@ took_again out text x y told = subst (λ (l : List ℕ). Told (Took l) x y) (sym
 
 -- ---- nothing was done
 
-pub ran_out_first : (before : Counts) (tells : ℕ → Type 0) (x z t v : Option (List ℕ)) → Told AreAny x z → v ≡ t → RanOut before tells x z t v
-ran_out_first before tells x z t v told same =
+-- memory was wanting for the first line
+pub ran_out_next : (before : Counts) (tells : ℕ → Type 0) (x z t v : Option (List ℕ)) → Told (AwaitsLine (longest None) (2 ^ 40)) x z → v ≡ t → RanOut before tells x z t v
+ran_out_next before tells x z t v told same =
     let none = ran_nothing before (λ q. None) tells in
-    inl (record {
+    inr (inl (record {
       events = [];
       replies = [];
       in_place = none.in_place;
       budget = none.budget;
       final = none.final;
       history = none.history;
-      input = any_starts x z told;
+      input = Told-each (AwaitsLine (longest None) (2 ^ 40)) (StopsBefore (longest None) (2 ^ 40 - 0) []) (λ p q next. record { more = p; split = refl; next = next }) x z told;
       output = subst (λ (o : Option (List ℕ)). Told (Took []) t o) (sym same) (Told-refl (Took []) (λ b. sym (append-nil b)) t);
-    })
+    }))
+
+pub ran_out_first : (before : Counts) (tells : ℕ → Type 0) (x z t v : Option (List ℕ)) → WantsFirst x z t v → RanOut before tells x z t v
+ran_out_first before tells x z t v (inl left, same) = inl (left, same)
+ran_out_first before tells x z t v (inr told, same) = ran_out_next before tells x z t v told same
 
 pub broke_off_first : (now : Counts) (bytes : ℕ → Option (List ℕ)) (tells : ℕ → Type 0) (x z t v : Option (List ℕ)) → Told (GaveLines []) x z → v ≡ t → BrokeOff now now bytes bytes tells x z t v
 broke_off_first now bytes tells x z t v told same = record {
@@ -153,8 +159,24 @@ module _ {R : Type 0} (ghosts : Ghosts R) (none : (s : R) → ghosts.made s [] s
   told_in : (final : State) → final.boundaries ≡ boundaries_of b → TellsBoundaries (ghosts.tells (below_of b)) final → KnownBy Always ghosts b
   told_in final is told = ((λ q below. told q (subst (λ (n : ℕ). q / 2 < n) (sym is) below)), tt)
 
+  -- the same line is next behind the first one
+  awaits_more : (events : List Event) (text left rest : Option (List ℕ)) → Told (Begins None (MakeArray shape)) text left
+      → Told (StopsBefore (longest (Some (shape_of a))) (2 ^ 40 - (first + length (input_of events))) (input_of events)) left rest
+      → Told (StopsBefore (longest (Some shape)) (2 ^ 40 - length (input_of (MakeArray shape ∷ events))) (input_of (MakeArray shape ∷ events))) text rest
+  awaits_more events text left rest line lines =
+      let size : first + length (input_of events) ≡ length (input_of (MakeArray shape ∷ events)) = omega (arith, length-append (line_of (MakeArray shape)) (input_of events), is) in
+      let here = same_shape ghosts none both law shape first rack a b is well blank goes in
+      let next = subst (λ (n : ℕ). Told (StopsBefore (longest (Some (shape_of a))) (2 ^ 40 - n) (input_of events)) left rest) size lines in
+      let most = subst (λ (s : Shape). Told (StopsBefore (longest (Some s)) (2 ^ 40 - length (input_of (MakeArray shape ∷ events))) (input_of events)) left rest) here next in
+      Told-then (Begins None (MakeArray shape)) (StopsBefore (longest (Some shape)) (2 ^ 40 - length (input_of (MakeArray shape ∷ events))) (input_of events))
+      (StopsBefore (longest (Some shape)) (2 ^ 40 - length (input_of (MakeArray shape ∷ events))) (input_of (MakeArray shape ∷ events))) (λ p q r f s. record {
+        more = s.more;
+        split = f.line ∙ ap (λ (l : List ℕ). line_of (MakeArray shape) ++ l) s.split ∙ sym (append_assoc (line_of (MakeArray shape)) (input_of events) s.more);
+        next = s.next;
+      }) text left rest line most
+
   lines_wanted : (text left rest taken given : Option (List ℕ)) → Told (Begins None (MakeArray shape)) text left → LinesWanted ghosts (reply_line Done) (shape_of a) first left rest taken given a b
-      → RanOutBetween (ghosts.counts rack) (ghosts.tells (below_of b)) text rest taken given
+      → RanOutBefore (ghosts.counts rack) (ghosts.tells (below_of b)) text rest taken given
   lines_wanted text left rest taken given line lines =
       let W = lines.runs nothing blank.state blank.stands in
       let start = moment_of ghosts a blank.state in
@@ -165,7 +187,26 @@ module _ {R : Type 0} (ghosts : Ghosts R) (none : (s : R) → ghosts.made s [] s
         budget = omega (arith, length-append (line_of (MakeArray shape)) (input_of lines.events), lines.budget, is);
         final = W.0;
         history = (start, blank.makes, history_less (told_in W.0.state W.1) plain start lines.events lines.replies W.0 W.2);
-        input = starts_more shape lines.events text left rest line lines.input;
+        input = awaits_more lines.events text left rest line lines.input;
+        output = lines.output;
+      }
+
+  lines_done : (text left rest taken given : Option (List ℕ)) → Told (Begins None (MakeArray shape)) text left → LinesDone ghosts (reply_line Done) (shape_of a) first left rest taken given a b
+      → RanOutBehind (ghosts.counts rack) (ghosts.tells (below_of b)) text rest taken given
+  lines_done text left rest taken given line lines =
+      let events = lines.events ++ lines.last ∷ [] in
+      let W = lines.runs nothing blank.state blank.stands in
+      let start = moment_of ghosts a blank.state in
+      record {
+        events = MakeArray shape ∷ lines.events;
+        last = lines.last;
+        replies = Done ∷ lines.replies;
+        notes = lines.notes;
+        in_place = (well, subst (λ (s : Shape). All (IsInPlace (Some s)) events) (same_shape ghosts none both law shape first rack a b is well blank goes) lines.in_place);
+        budget = omega (arith, length-append (line_of (MakeArray shape)) (input_of events), lines.budget, is);
+        final = W.0;
+        history = (start, blank.makes, history_less (told_in W.0.state W.1) plain start events lines.replies W.0 W.2);
+        input = starts_more shape events text left rest line lines.input;
         output = lines.output;
       }
 
@@ -191,14 +232,24 @@ module _ {R : Type 0} (ghosts : Ghosts R) (none : (s : R) → ghosts.made s [] s
         output = took_again (output_of lines.replies) lines.text taken given lines.output;
       }
 
-  pub array_ran_out : (text left rest taken given : Option (List ℕ)) → Told (Begins None (MakeArray shape)) text left → ArrayRanOut ghosts (shape_of a) first left rest taken given a b
+  pub array_ran_out : (text left rest taken given : Option (List ℕ)) → Told (Begins None (MakeArray shape)) text left → Told (BeginsWithLine (longest None) (2 ^ 40)) text left → ArrayRanOut ghosts (shape_of a) first left rest taken given a b
       → RanOut (ghosts.counts rack) (ghosts.tells (below_of b)) text rest taken given
-  array_ran_out text left rest taken given line (inl none) =
-      ran_out_first (ghosts.counts rack) (ghosts.tells (below_of b)) text rest taken given (Told-then (Begins None (MakeArray shape)) AreAny AreAny (λ p q r f s. tt) text left rest line none.1) none.0
-  array_ran_out text left rest taken given line (inr (inl lines)) = inl (lines_wanted text left rest taken given line lines)
-  array_ran_out text left rest taken given line (inr (inr lines)) = inr (lines_listed text left rest taken given line lines)
+  array_ran_out text left rest taken given line whole (inl none) =
+      ran_out_next (ghosts.counts rack) (ghosts.tells (below_of b)) text rest taken given
+      (Told-then (BeginsWithLine (longest None) (2 ^ 40)) AreAny (AwaitsLine (longest None) (2 ^ 40)) (λ p q r f s. (q, f)) text left rest whole none.1) none.0
+  array_ran_out text left rest taken given line whole (inr (inl lines)) = inr (inl (lines_wanted text left rest taken given line lines))
+  array_ran_out text left rest taken given line whole (inr (inr (inl lines))) = inr (inr (inl (lines_done text left rest taken given line lines)))
+  array_ran_out text left rest taken given line whole (inr (inr (inr lines))) = inr (inr (inr (lines_listed text left rest taken given line lines)))
 
 -- a fresh buffer has nothing ahead of its source
 pub fresh_is : (unread : List ℕ) (left : Option (List ℕ)) → unread ≡ [] → option_map (λ more. unread ++ more) left ≡ left
 fresh_is unread None fresh = refl
 fresh_is unread (Some a) fresh = ap (λ (l : List ℕ). Some (l ++ a)) fresh
+
+-- no memory for the array of the first line
+pub wants_array : {T E : Type 0} (result : Result T E) (unread : List ℕ) → unread ≡ [] → (left mid rest taken given : Option (List ℕ))
+    → Told (BeginsWithLine (longest None) (2 ^ 40)) (option_map (λ more. unread ++ more) left) mid → OnErr result (Told AreAny mid rest × (given ≡ taken)) → OnErr result (WantsFirst left rest taken given)
+wants_array (Ok done) unread fresh left mid rest taken given line none = tt
+wants_array (Err fault) unread fresh left mid rest taken given line none =
+    let here = subst (λ (x : Option (List ℕ)). Told (BeginsWithLine (longest None) (2 ^ 40)) x mid) (fresh_is unread left fresh) line in
+    (inr (Told-then (BeginsWithLine (longest None) (2 ^ 40)) AreAny (AwaitsLine (longest None) (2 ^ 40)) (λ p q r f s. (q, f)) left mid rest here none.0), none.1)

@@ -3,8 +3,7 @@ use Rattle.std.proofs.Common.{◌≡◌, ◌∙◌, ℕ, List, [], arith, inl, i
 use Rattle.std.specs.Prelude.{◌⊎◌, Option, Result, Ok, Err}
 use Rattle.dg_drill.specs.declared.drills.DrillEnd.{DrillEnd}
 use Rattle.dg_drill.specs.declared.drills.DrillEnd.TheVariants.{Done as Drilled, WriteFault as DrillCut}
-use Rattle.dg_io.specs.Told.{AreAny, Told, Took, TookPart}
-use Rattle.dg_run.proofs.Broken.{ran_out_first}
+use Rattle.dg_io.specs.Told.{Told, Took, TookPart}
 use Rattle.dg_run.proofs.ToldSteps.{Told-refl}
 use Rattle.dg_run.specs.Arrays.{IsOfReplay}
 use Rattle.dg_run.specs.Calls.{Facts}
@@ -92,8 +91,8 @@ unread left rest same = subst (λ (o : Option (List ℕ)). Told GavePart left o)
 
 -- memory was wanting before anything was done
 pub wanted_first : (tells : ℕ → Type 0) (f : Facts) (command : Command) → f.rest ≡ f.left → f.given ≡ f.taken → Ends tells f command NoMemory
-wanted_first tells f Replay left taken = ran_out_first f.before tells f.left f.rest f.taken f.given (subst (λ (o : Option (List ℕ)). Told AreAny f.left o) (sym left) (Told-refl AreAny (λ b. tt) f.left)) taken
-wanted_first tells f Resume left taken = inl (subst (λ (o : Option (List ℕ)). Told AreAny f.left o) (sym left) (Told-refl AreAny (λ b. tt) f.left), taken)
+wanted_first tells f Replay left taken = inl (left, taken)
+wanted_first tells f Resume left taken = inl (left, taken)
 wanted_first tells f (Cat path) left taken = taken
 wanted_first tells f (Ls path) left taken = taken
 wanted_first tells f StatusCommand left taken = taken

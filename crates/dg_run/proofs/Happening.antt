@@ -241,7 +241,7 @@ module _ {R : Type 0} (rack : Ghosts R) (none : (s : R) → rack.made s [] s) (b
     event_cut h = record { reply = h.reply; runs = volume_runs_of a b event h.reply goes (pairs h.reply) h.steps; output = h.output }
 
     event_done : AnsweredBefore (live rack) event taken given a b → EventDone rack event taken given a b
-    event_done h = record { reply = h.reply; runs = volume_runs_of a b event h.reply goes (pairs h.reply) h.steps; output = h.output }
+    event_done h = record { reply = h.reply; notes = h.notes; runs = volume_runs_of a b event h.reply goes (pairs h.reply) h.steps; output = h.output }
 
     event_listed : ListedBefore (live rack) event taken given a b → EventListed rack event taken given a b
     event_listed h = record { reply = h.reply; text = h.text; lines = h.lines; runs = volume_runs_of a b event h.reply goes (pairs h.reply) h.steps; output = h.output }

@@ -5,7 +5,7 @@ use Rattle.std.specs.Option.{option_map}
 use Rattle.std.proofs.lemmas.List.Concat.{flat_map-append}
 use Rattle.dg_io.specs.RackCalls.{RackCall}
 use Rattle.dg_io.specs.RackWords.{After}
-use Rattle.dg_io.specs.Told.{AreAny, Told, Took, TookPart}
+use Rattle.dg_io.specs.Told.{Told, Took, TookPart}
 use Rattle.dg_io.specs.declared.outside.Rack.{Ghosts}
 use Rattle.dg_model.specs.Lives.{all_live}
 use Rattle.dg_model.specs.Tables.{Table}
@@ -23,16 +23,16 @@ use Rattle.dg_run.proofs.ToldSteps.{Told-then}
 use Rattle.dg_run.proofs.Whole.{fresh_told, rest_ended, rest_told, took_last}
 use Rattle.dg_run.specs.Arrays.{IsOfReplay}
 use Rattle.dg_run.specs.Calls.{Facts, met_by}
-use Rattle.dg_run.specs.Endings.{GaveLines, LinesBrokeOff, LinesCut, LinesRanOut, StartsWith}
+use Rattle.dg_run.specs.Endings.{GaveLines, LinesBrokeOff, LinesCut, LinesRanOut, StartsWith, StopsBefore}
 use Rattle.dg_run.specs.Events.{IsRefused}
 use Rattle.dg_run.specs.Histories.{Continues, RunsBefore, VolumeRunsTo, below_of}
 use Rattle.dg_run.specs.Lines.{AllServed, BeginsAll, RefusedBehind, RefusedInPart, ServedTo}
-use Rattle.dg_run.specs.Resumes.{AreLines, EndsResume, RanOn, ResumeCut, ResumeCutRefusal, ResumeListed, ResumeWanted, StopsOn, WantedOn}
+use Rattle.dg_run.specs.Resumes.{AreLines, EndsResume, RanOn, ResumeCut, ResumeCutRefusal, ResumeDone, ResumeListed, ResumeWanted, StopsOn, WantedOn}
 use Rattle.dg_run.specs.Steps.{shape_of}
 use Rattle.dg_run.specs.declared.arrays.Array.{Array}
 use Rattle.dg_run.specs.declared.top.Status.{Status}
 use Rattle.dg_run.specs.declared.top.Status.TheVariants.{Done, Usage, BadLine, ReadFault, WriteFault, NoMemory, NoState, Unclean, Refused}
-use Rattle.dg_text.specs.Lines.{IsInPlace, input_of, line_of}
+use Rattle.dg_text.specs.Lines.{IsInPlace, input_of, line_of, longest}
 use Rattle.dg_text.specs.Replies.{output_of, refusal}
 use Rattle.dg_text.specs.declared.lines.BadLine.{BadLine as Kind}
 use Rattle.dg_saved.specs.Saved.{HasSource}
@@ -139,19 +139,37 @@ module _ {R : Type 0} (rack : Ghosts R) (none : (s : R) → rack.made s [] s) (b
 
   abbrev Wanting : Type 0
   Wanting =
-      (Told AreAny left rest × (given ≡ taken))
-      ⊎ (ResumeWanted tells facts ⊎ ResumeListed tells facts)
+      ((rest ≡ left) × (given ≡ taken))
+      ⊎ (ResumeWanted tells facts ⊎ (ResumeDone tells facts ⊎ ResumeListed tells facts))
 
-  wanted_by : (Told AreAny first_left rest × (given ≡ taken)) ⊎ LinesRanOut rack [] (shape_of a) 0 first_left rest taken given a b → Wanting
-  wanted_by (inl h) = inl (fresh_told AreAny unread left rest fresh h.0, h.1)
+  -- the next line, behind those on what the array was opened from
+  awaits : (events : List Event) → Told (StopsBefore (longest (Some (shape_of a))) (2 ^ 40 - (0 + length (input_of events))) (input_of events)) first_left rest
+      → Told (StopsBefore (longest (Some opened.saved.table.shape)) (2 ^ 40 - length (input_of events)) (input_of events)) left rest
+  awaits events told =
+      let at : 0 + length (input_of events) ≡ length (input_of events) = omega arith in
+      let here = subst (λ (n : ℕ). Told (StopsBefore (longest (Some (shape_of a))) (2 ^ 40 - n) (input_of events)) first_left rest) at told in
+      let most = subst (λ (t : Table). Told (StopsBefore (longest (Some t.shape)) (2 ^ 40 - length (input_of events)) (input_of events)) first_left rest) opened.table here in
+      fresh_told (StopsBefore (longest (Some opened.saved.table.shape)) (2 ^ 40 - length (input_of events)) (input_of events)) unread left rest fresh most
+
+  wanted_by : ((rest ≡ left) × (given ≡ taken)) ⊎ LinesRanOut rack [] (shape_of a) 0 first_left rest taken given a b → Wanting
+  wanted_by (inl h) = inl h
   wanted_by (inr (inl h)) = inr (inl (record {
     events = h.events;
     replies = h.replies;
     ran = wanted_on h.events h.replies h.in_place (omega (arith, h.budget)) h.runs;
-    input = fresh_told (StartsWith (input_of h.events)) unread left rest fresh h.input;
+    input = awaits h.events h.input;
     output = h.output;
   }))
-  wanted_by (inr (inr h)) = inr (inr (record {
+  wanted_by (inr (inr (inl h))) = inr (inr (inl (record {
+    events = h.events;
+    last = h.last;
+    replies = h.replies;
+    notes = h.notes;
+    ran = wanted_on (h.events ++ h.last ∷ []) h.replies h.in_place (omega (arith, h.budget)) h.runs;
+    input = fresh_told (StartsWith (input_of (h.events ++ h.last ∷ []))) unread left rest fresh h.input;
+    output = h.output;
+  })))
+  wanted_by (inr (inr (inr h))) = inr (inr (inr (record {
     events = h.events;
     replies = h.replies;
     last = h.last;
@@ -161,12 +179,12 @@ module _ {R : Type 0} (rack : Ghosts R) (none : (s : R) → rack.made s [] s) (b
     ran = wanted_on (h.events ++ h.last ∷ []) (h.replies ++ h.reply ∷ []) h.in_place (omega (arith, h.budget)) h.runs;
     input = fresh_told (StartsWith (input_of (h.events ++ h.last ∷ []))) unread left rest fresh h.input;
     output = h.output;
-  }))
+  })))
 
   pub ends_resume : (status : Status) → (status ≡ Done → AllServed rack (shape_of a) 0 first_left last_left taken given a b)
       → (status ≡ BadLine → RefusedBehind rack (shape_of a) 0 1 first_left last_left taken given a b) → (status ≡ ReadFault → LinesBrokeOff rack [] (shape_of a) 0 first_left rest taken given a b)
       → (status ≡ WriteFault → LinesCut rack [] (shape_of a) 0 first_left rest taken given a b ⊎ RefusedInPart rack (shape_of a) 0 1 first_left last_left taken given a b)
-      → (status ≡ NoMemory → (Told AreAny first_left rest × (given ≡ taken)) ⊎ LinesRanOut rack [] (shape_of a) 0 first_left rest taken given a b)
+      → (status ≡ NoMemory → ((rest ≡ left) × (given ≡ taken)) ⊎ LinesRanOut rack [] (shape_of a) 0 first_left rest taken given a b)
       → IsOfReplay status → EndsResume tells facts status
   ends_resume Done all bad broken cut wanting never =
       let h = all refl in

@@ -4,6 +4,7 @@ use Rattle.dg_model.specs.declared.shapes.Shape.{Shape}
 use Rattle.dg_model.specs.declared.events.Event.{Event as Spelled}
 use Rattle.dg_text.specs.Lines.{line_of, IsInPlace}
 use Rattle.dg_text.specs.declared.lines.BadLine.{BadLine}
+use Rattle.dg_run.specs.Inputs.{BeginsWithLine}
 use Rattle.dg_run.specs.Refusals.{IsRefusedBy}
 use Rattle.dg_run.specs.declared.events.Taken.{Taken}
 use Rattle.dg_run.specs.declared.events.Taken.TheVariants.{Event, End, Refused}
@@ -24,6 +25,12 @@ pub record IsRefused (shape : Option Shape) (room : ℕ) (text : List ℕ) (kind
   pub some : text ≡ [] → ⊥
   pub by_kind : IsRefusedBy shape room text kind
   pub none : (event : Spelled) (tail : List ℕ) → IsInPlace shape event → text ≡ line_of event ++ tail → room < length (line_of event)
+
+-- where the event of a line was taken, that is one of no more bytes than the longest and than the room
+abbrev pub TookLine : ℕ → ℕ → Taken → List ℕ → List ℕ → Type 0
+TookLine most room (Event event n) before after = BeginsWithLine most room before after
+TookLine most room End before after = Unit {0}
+TookLine most room (Refused kind) before after = Unit {0}
 
 abbrev pub TookEvent : Option Shape → ℕ → Taken → List ℕ → List ℕ → Type 0
 TookEvent shape room (Event event n) before after = Begins shape event before after

@@ -15,7 +15,7 @@ use Rattle.dg_regroup.specs.LivePassing.{own_calls, own_writes}
 use Rattle.dg_regroup.specs.LiveGhosts.{live}
 use Rattle.dg_regroup.specs.LiveRacks.{live_in, rack_in}
 use Rattle.dg_regroup.specs.declared.live_racks.LiveRack.{LiveRack}
-use Rattle.dg_run.specs.Steps.{BeginsLines, IsSound, StandsIn, rack_of, shape_of}
+use Rattle.dg_run.specs.Steps.{BeginsLines, IsSound, NotesFile, StandsIn, rack_of, shape_of}
 use Rattle.dg_run.specs.declared.arrays.Array.{Array}
 use Rattle.dg_store.specs.Leaves.{IsCallBelow}
 use Rattle.dg_text.specs.Replies.{reply_line}
@@ -114,6 +114,7 @@ pub record EventCut {R : Type 0} (rack : Ghosts R) (event : Event) (taken given 
 -- the event was done and its reply was written, and behind it memory was wanting
 pub record EventDone {R : Type 0} (rack : Ghosts R) (event : Event) (taken given : Option (List ℕ)) (old now : Array (LiveRack R)) : Type 0 where
   pub reply : Reply
+  pub notes : NotesFile event
   pub runs : VolumeRunsTo rack old (event ∷ []) (reply ∷ []) now
   pub output : Told (Took (reply_line reply)) taken given
 

@@ -49,3 +49,7 @@ pub record BeginsWithLine (most room : ℕ) (before after : List ℕ) : Type 0 w
   pub none : HasNoLineFeed line
   pub short : length line + 1 ≤ most
   pub within : length line + 1 ≤ room
+
+-- The text begins with such a line: so it isn't refused for the line's length, nor for the budget, nor for the input's end.
+abbrev pub AwaitsLine : ℕ → ℕ → List ℕ → List ℕ → Type 0
+AwaitsLine most room before after = (behind : List ℕ) × BeginsWithLine most room before behind

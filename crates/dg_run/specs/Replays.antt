@@ -8,12 +8,13 @@ use Rattle.dg_model.specs.declared.events.Event.{Event}
 use Rattle.dg_model.specs.declared.events.Event.TheVariants.{Array}
 use Rattle.dg_model.specs.declared.replies.Reply.{Reply}
 use Rattle.dg_io.specs.Told.{IsSame, Told, Took}
-use Rattle.dg_text.specs.Lines.{line_of, input_of, IsInPlace, AreInPlace}
+use Rattle.dg_text.specs.Lines.{line_of, input_of, longest, IsInPlace, AreInPlace}
 use Rattle.dg_text.specs.Replies.{output_of, refusal, reply_line}
 use Rattle.dg_text.specs.declared.lines.BadLine.{BadLine}
-use Rattle.dg_run.specs.Endings.{GaveLines, StartsWith, TookUpTo}
+use Rattle.dg_run.specs.Endings.{GaveLines, StartsWith, StopsBefore, TookUpTo}
+use Rattle.dg_run.specs.Inputs.{AwaitsLine}
 use Rattle.dg_run.specs.Refusals.{IsRefusedBy}
-use Rattle.dg_run.specs.Steps.{BeginsLines}
+use Rattle.dg_run.specs.Steps.{BeginsLines, NotesFile}
 
 -- the shape of the array that the first event made
 abbrev pub shape_after : List Event → Option Shape
@@ -122,16 +123,31 @@ abbrev pub IsCut : Counts → Counts → (ℕ → Option (List ℕ)) → (ℕ �
 IsCut before now images bytes tells left rest taken given =
     CutReply before now images bytes tells left rest taken given ⊎ CutRefusal before now images bytes tells left rest taken given
 
--- Memory was wanting before a reply, or behind one: the input begins with the lines of these events, and the output is the text of their
--- replies. Nothing is said of what the rack holds, nor of the counts that it has.
-pub record RanOutBetween (before : Counts) (tells : ℕ → Type 0) (left rest taken given : Option (List ℕ)) : Type 0 where
+-- Memory was wanting for a line: the input begins with the lines of these events, and then with one that has no more bytes than the longest and than what
+-- is left of the budget; so that one is refused neither for its length nor for the input's end. The output is the text of the replies. Nothing is said of
+-- what the rack holds, nor of the counts that it has.
+pub record RanOutBefore (before : Counts) (tells : ℕ → Type 0) (left rest taken given : Option (List ℕ)) : Type 0 where
   pub events : List Event
   pub replies : List Reply
   pub in_place : AreInPlace events
   pub budget : length (input_of events) ≤ 2 ^ 40
   pub final : Moment
   pub history : HistoryOf (TellsBoundaries tells final.state) before events replies final
-  pub input : Told (StartsWith (input_of events)) left rest
+  pub input : Told (StopsBefore (longest (shape_after events)) (2 ^ 40 - length (input_of events)) (input_of events)) left rest
+  pub output : Told (Took (output_of replies)) taken given
+
+-- Memory was wanting behind a file's bytes, to note that it was read: the input begins with the lines of these events, the last of which asks for it, and
+-- the output is the text of their replies.
+pub record RanOutBehind (before : Counts) (tells : ℕ → Type 0) (left rest taken given : Option (List ℕ)) : Type 0 where
+  pub events : List Event
+  pub last : Event
+  pub replies : List Reply
+  pub notes : NotesFile last
+  pub in_place : AreInPlace (events ++ last ∷ [])
+  pub budget : length (input_of (events ++ last ∷ [])) ≤ 2 ^ 40
+  pub final : Moment
+  pub history : HistoryOf (TellsBoundaries tells final.state) before (events ++ last ∷ []) replies final
+  pub input : Told (StartsWith (input_of (events ++ last ∷ []))) left rest
   pub output : Told (Took (output_of replies)) taken given
 
 -- Memory was wanting within a listing: the input begins with the lines of these events, the last of which asks for it. The output is the text of the
@@ -150,6 +166,12 @@ pub record RanOutWithin (before : Counts) (tells : ℕ → Type 0) (left rest ta
   pub input : Told (StartsWith (input_of (events ++ last ∷ []))) left rest
   pub output : Told (Took (output_of replies ++ text)) taken given
 
--- memory was wanting: no reply was written in part, or a listing was, to the end of an entry
+-- memory was wanting before anything was read or written, or for the first line
+abbrev pub WantsFirst : Option (List ℕ) → Option (List ℕ) → Option (List ℕ) → Option (List ℕ) → Type 0
+WantsFirst left rest taken given = ((rest ≡ left) ⊎ Told (AwaitsLine (longest None) (2 ^ 40)) left rest) × (given ≡ taken)
+
+-- Memory was wanting: before anything was read or written, for a line, behind a file's bytes, or within a listing, to the end of an entry.
 abbrev pub RanOut : Counts → (ℕ → Type 0) → Option (List ℕ) → Option (List ℕ) → Option (List ℕ) → Option (List ℕ) → Type 0
-RanOut before tells left rest taken given = RanOutBetween before tells left rest taken given ⊎ RanOutWithin before tells left rest taken given
+RanOut before tells left rest taken given =
+    ((rest ≡ left) × (given ≡ taken))
+    ⊎ (RanOutBefore before tells left rest taken given ⊎ (RanOutBehind before tells left rest taken given ⊎ RanOutWithin before tells left rest taken given))

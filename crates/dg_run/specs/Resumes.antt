@@ -1,21 +1,21 @@
 -- What a trace on a saved array means: the events of its input, their replies, and what the rack holds at the end.
 use Rattle.std.specs.Prelude.{◌≡◌, ◌⊎◌, ◌≤◌, ◌+◌, ◌-◌, ◌^◌, ◌++◌, [], ◌∷◌, ℕ, List, length, Some, All}
-use Rattle.dg_io.specs.Told.{AreAny, Told, Took}
+use Rattle.dg_io.specs.Told.{Told, Took}
 use Rattle.dg_model.specs.States.{Counts, CountsRise}
 use Rattle.dg_model.specs.declared.events.Event.{Event}
 use Rattle.dg_model.specs.declared.replies.Reply.{Reply}
 use Rattle.dg_model.specs.declared.shapes.Shape.{Shape}
 use Rattle.dg_run.specs.Calls.{Facts, met_by}
-use Rattle.dg_run.specs.Endings.{GaveLines, StartsWith, TookUpTo}
+use Rattle.dg_run.specs.Endings.{GaveLines, StartsWith, StopsBefore, TookUpTo}
 use Rattle.dg_run.specs.Events.{IsRefused}
 use Rattle.dg_run.specs.Opened.{ReadsNothing, Reached, Resumed}
-use Rattle.dg_run.specs.Steps.{BeginsLines}
+use Rattle.dg_run.specs.Steps.{BeginsLines, NotesFile}
 use Rattle.dg_run.specs.declared.top.Status.{Status}
 use Rattle.dg_run.specs.declared.top.Status.TheVariants.{Done, BadLine, ReadFault, WriteFault, NoMemory, NoState, Unclean}
 use Rattle.dg_saved.specs.Ends.{CutUnopened, Printed}
 use Rattle.dg_saved.specs.Saved.{FoundNoState, FoundUnclean, HasSource, OthersKept}
 use Rattle.dg_saved.specs.Texts.{nostate_text, unclean_text}
-use Rattle.dg_text.specs.Lines.{IsInPlace, input_of}
+use Rattle.dg_text.specs.Lines.{IsInPlace, input_of, longest}
 use Rattle.dg_text.specs.Replies.{output_of, refusal, reply_line}
 use Rattle.dg_text.specs.declared.lines.BadLine.{BadLine as Kind}
 
@@ -93,12 +93,22 @@ pub record ResumeCutRefusal (tells : ℕ → Type 0) (facts : Facts) : Type 0 wh
   pub input : Told (λ b a. (text : List ℕ) × StopsOn ran.source.saved.table.shape events kind b text) facts.left facts.rest
   pub output : Told (TookUpTo (output_of replies) (refusal (length events + 1) kind)) facts.taken facts.given
 
--- memory was wanting before a reply, or behind one
+-- memory was wanting for a line, which is refused neither for its length nor for the input's end
 pub record ResumeWanted (tells : ℕ → Type 0) (facts : Facts) : Type 0 where
   pub events : List Event
   pub replies : List Reply
   pub ran : WantedOn tells facts events replies
-  pub input : Told (StartsWith (input_of events)) facts.left facts.rest
+  pub input : Told (StopsBefore (longest (Some ran.source.saved.table.shape)) (2 ^ 40 - length (input_of events)) (input_of events)) facts.left facts.rest
+  pub output : Told (Took (output_of replies)) facts.taken facts.given
+
+-- memory was wanting behind a file's bytes
+pub record ResumeDone (tells : ℕ → Type 0) (facts : Facts) : Type 0 where
+  pub events : List Event
+  pub last : Event
+  pub replies : List Reply
+  pub notes : NotesFile last
+  pub ran : WantedOn tells facts (events ++ last ∷ []) replies
+  pub input : Told (StartsWith (input_of (events ++ last ∷ []))) facts.left facts.rest
   pub output : Told (Took (output_of replies)) facts.taken facts.given
 
 -- memory was wanting within a listing, of which the first lines were written
@@ -119,7 +129,8 @@ EndsResume tells facts Done = AllResumed tells facts
 EndsResume tells facts BadLine = ResumeStopped tells facts
 EndsResume tells facts ReadFault = ResumeBrokeOff tells facts
 EndsResume tells facts WriteFault = (ReadsNothing facts × CutUnopened (met_by facts)) ⊎ (ResumeCut tells facts ⊎ ResumeCutRefusal tells facts)
-EndsResume tells facts NoMemory = (Told AreAny facts.left facts.rest × (facts.given ≡ facts.taken)) ⊎ (ResumeWanted tells facts ⊎ ResumeListed tells facts)
+EndsResume tells facts NoMemory =
+    (ReadsNothing facts × (facts.given ≡ facts.taken)) ⊎ (ResumeWanted tells facts ⊎ (ResumeDone tells facts ⊎ ResumeListed tells facts))
 EndsResume tells facts NoState = ReadsNothing facts × FoundNoState (met_by facts) × Printed (met_by facts) nostate_text
 EndsResume tells facts Unclean = ReadsNothing facts × FoundUnclean (met_by facts) × Printed (met_by facts) unclean_text
 EndsResume tells facts status = ⊥

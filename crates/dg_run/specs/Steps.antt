@@ -6,7 +6,7 @@ use Rattle.dg_model.specs.Paths.{PathOf}
 use Rattle.dg_model.specs.States.{IsBlank, State}
 use Rattle.dg_model.specs.Steps.{Step}
 use Rattle.dg_model.specs.declared.events.Event.{Event}
-use Rattle.dg_model.specs.declared.events.Event.TheVariants.{LostFiles, Tree}
+use Rattle.dg_model.specs.declared.events.Event.TheVariants.{Cat, LostFiles, Tree}
 use Rattle.dg_model.specs.declared.replies.Reply.{Reply}
 use Rattle.dg_model.specs.declared.replies.Reply.TheVariants.{LostFiles as LostFilesReply, Nodes}
 use Rattle.dg_model.specs.declared.shapes.Shape.{Shape}
@@ -73,9 +73,15 @@ pub record AnsweredPart {R : Type 0} (rack : Ghosts R) (event : Event) (taken gi
   pub steps : VolumeStepsTo rack old event reply new
   pub output : Told (TookPart (reply_line reply)) taken given
 
+-- behind the reply to this event the file that it gave is noted as read last, which may take memory
+abbrev pub NotesFile : Event → Type 0
+NotesFile (Cat path) = Unit {0}
+NotesFile event = ⊥
+
 -- the event was done and its reply was written, and behind it memory was wanting
 pub record AnsweredBefore {R : Type 0} (rack : Ghosts R) (event : Event) (taken given : Option (List ℕ)) (old now : Array R) : Type 0 where
   pub reply : Reply
+  pub notes : NotesFile event
   pub steps : VolumeStepsTo rack old event reply now
   pub output : Told (Took (reply_line reply)) taken given
 

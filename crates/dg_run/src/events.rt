@@ -10,7 +10,7 @@ ghost use Rattle.dg_run.specs.Bytes.{HasNoLineFeed};
 ghost use Rattle.dg_run.specs.Endings.{GaveLines};
 ghost use Rattle.dg_run.specs.Inputs.{ahead, BeginsWithLine, IsCutOff, IsFull};
 ghost use Rattle.dg_run.specs.Refusals.{IsRefusedBy};
-ghost use Rattle.dg_run.specs.Events.{IsTaken, TookEvent};
+ghost use Rattle.dg_run.specs.Events.{IsTaken, TookEvent, TookLine};
 
 use crate::input::{Input, LineStep};
 use dg_io::Source;
@@ -45,6 +45,7 @@ fn judge(alloc: Global, line: &[u8], shape: Option<&Shape>, room: u64) -> Result
     requires short { length line.now + 1 ≤ longest (option_copied shape) }
     ensures is { IfOk result (IsTaken (option_copied shape.entry) room) }
     ensures took { IfOk result (λ taken. (more : List ℕ) → TookEvent (option_copied shape.entry) room taken (line.now ++ 10 ∷ more) more) }
+    ensures whole { IfOk result (λ taken. (more : List ℕ) → TookLine (longest (option_copied shape.entry)) room taken (line.now ++ 10 ∷ more) more) }
     ensures within { OnErr result (length line.now + 1 ≤ room) }
 {
     let bytes = line.len() as u64 + 1;
@@ -90,6 +91,8 @@ pub fn take_event<S: Source>(
     requires { IfSome (option_copied shape) IsShape }
     ensures is { IfOk result (IsTaken (option_copied shape.entry) room) }
     ensures took { IfOk result (λ taken. Told (TookEvent (option_copied shape.entry) room taken) (ahead input.old (S.left source.old))
+        (ahead input.new (S.left source.new))) }
+    ensures whole { IfOk result (λ taken. Told (TookLine (longest (option_copied shape.entry)) room taken) (ahead input.old (S.left source.old))
         (ahead input.new (S.left source.new))) }
     ensures broken { result ≡ Err Fault.Read → Told (GaveLines []) (ahead input.old (S.left source.old)) (S.left source.new) }
     ensures wanting { result ≡ Err Fault.NoMemory → Told AreAny (ahead input.old (S.left source.old)) (S.left source.new) }

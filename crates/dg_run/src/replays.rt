@@ -10,11 +10,11 @@ ghost use Rattle.dg_run.specs.Calls.{facts_of};
 ghost use Rattle.dg_run.specs.Endings.{LinesBrokeOff};
 ghost use Rattle.dg_run.specs.Ends.{EndsReplay};
 ghost use Rattle.dg_run.specs.Events.{Begins};
-ghost use Rattle.dg_run.specs.Inputs.{ahead};
-ghost use Rattle.dg_run.specs.Replays.{BrokeOff, IsCut, RanOut, Replayed, Stopped};
+ghost use Rattle.dg_run.specs.Inputs.{ahead, BeginsWithLine};
+ghost use Rattle.dg_run.specs.Replays.{BrokeOff, IsCut, RanOut, Replayed, Stopped, WantsFirst};
 ghost use Rattle.dg_run.specs.Histories.{Continues, IsReady};
 ghost use Rattle.dg_run.specs.Steps.{shape_of};
-ghost use Rattle.dg_text.specs.Lines.{line_of};
+ghost use Rattle.dg_text.specs.Lines.{line_of, longest};
 ghost use Rattle.dg_text.specs.Replies.{reply_line, refusal};
 
 use crate::arrays::Array;
@@ -145,6 +145,7 @@ fn replay_array<S: Source, K: Sink, R: Rack + Drop>(
         (K.taken sink.new)) }
     ensures wanting { IfOk result (λ end. end.status ≡ Status.NoMemory → (text : Option (List ℕ))
         → Told (Begins None (Event.Array shape)) text (ahead input.old (S.left source.old))
+        → Told (BeginsWithLine (longest None) (2 ^ 40)) text (ahead input.old (S.left source.old))
         → RanOut (R.counts rack) (R.tells end.rack) text (S.left source.new) (K.taken sink.old) (K.taken sink.new)) }
     ensures none { OnErr result (Told AreAny (ahead input.old (S.left source.old)) (S.left source.new) × (K.taken sink.new ≡ K.taken sink.old)) }
     ensures read { IfOk result (λ end. end.status ≡ Status.ReadFault → Rose (S.faults source.old) (S.faults source.new)) }
@@ -190,7 +191,7 @@ fn replay<S: Source, K: Sink, R: Rack + Drop>(
         (K.taken sink.old) (K.taken sink.new)) }
     ensures wanting { IfOk result (λ end. end.status ≡ Status.NoMemory
         → RanOut (R.counts rack) (R.tells end.rack) (S.left source.old) (S.left source.new) (K.taken sink.old) (K.taken sink.new)) }
-    ensures none { OnErr result (Told AreAny (S.left source.old) (S.left source.new) × (K.taken sink.new ≡ K.taken sink.old)) }
+    ensures none { OnErr result (WantsFirst (S.left source.old) (S.left source.new) (K.taken sink.old) (K.taken sink.new)) }
     ensures read { IfOk result (λ end. end.status ≡ Status.ReadFault → Rose (S.faults source.old) (S.faults source.new)) }
     ensures write { IfOk result (λ end. end.status ≡ Status.WriteFault → Rose (K.faults sink.old) (K.faults sink.new)) }
     ensures source_kept { IfOk result (λ end. (end.status ≡ Status.ReadFault → ⊥) → S.faults source.new ≡ S.faults source.old) }

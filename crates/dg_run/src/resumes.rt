@@ -1,6 +1,6 @@
 // A trace on the array that was saved.
 ghost use Rattle.std.specs.Prelude.{◌≡◌, ◌⊎◌, ◌≤◌, [], IfOk, OnErr};
-ghost use Rattle.dg_io.specs.Told.{AreAny, Told, Took, TookPart};
+ghost use Rattle.dg_io.specs.Told.{Told, Took, TookPart};
 ghost use Rattle.dg_model.specs.Causes.{Rose};
 ghost use Rattle.dg_run.specs.Arrays.{IsOfReplay};
 ghost use Rattle.dg_run.specs.Calls.{facts_of};
@@ -73,7 +73,7 @@ fn resume_array<S: Source, K: Sink, R: Rack>(
         ⊎ RefusedInPart R.Rack (shape_of array.old) 0 1 (ahead input.old (S.left source.old)) (ahead input.new (S.left source.new))
         (K.taken sink.old) (K.taken sink.new) array.old array.new }
     ensures wanting { result ≡ Status.NoMemory
-        → (Told AreAny (ahead input.old (S.left source.old)) (S.left source.new) × (K.taken sink.new ≡ K.taken sink.old))
+        → ((S.left source.new ≡ S.left source.old) × (K.taken sink.new ≡ K.taken sink.old))
         ⊎ LinesRanOut R.Rack [] (shape_of array.old) 0 (ahead input.old (S.left source.old)) (S.left source.new)
         (K.taken sink.old) (K.taken sink.new) array.old array.new }
     ensures read { result ≡ Status.ReadFault → Rose (S.faults source.old) (S.faults source.new) }

@@ -2,6 +2,7 @@ mod AuditRows
 mod AuditedLaws
 mod BlankAudits
 mod BlankRows
+mod CutLines
 pub mod Chains
 pub mod Cores
 mod DrilledLaws

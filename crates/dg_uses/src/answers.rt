@@ -3,6 +3,7 @@ ghost use Rattle.std.specs.Prelude.{◌≡◌, ◌⊎◌, List, ℕ, map, IsSome
 ghost use Rattle.dg_model.specs.Causes.{Rose};
 ghost use Rattle.dg_model.specs.declared.events.Event.{Event};
 ghost use Rattle.dg_model.specs.declared.findings.Finding.{Finding};
+ghost use Rattle.dg_run.specs.Bytes.{HasNoLineFeed};
 ghost use Rattle.dg_run.specs.Completes.{answer_status};
 ghost use Rattle.dg_run.specs.Ends.{asked_by};
 ghost use Rattle.dg_run.specs.Replays.{IsInput};
@@ -32,6 +33,21 @@ pub fn replay_lines<S: Source, K: Sink, R: Rack>(
     ensures { (events : List Event) → IsInput events → S.left source.old ≡ Some (input_of events) → IsSome (S.left source.new)
         → (Rose (S.faults source.old) (S.faults source.new) → ⊥) → (Rose (K.faults sink.old) (K.faults sink.new) → ⊥)
         → (result ≡ Status.Done) ⊎ (result ≡ Status.NoMemory) }
+{
+    run(alloc, words, source, sink, rack)
+}
+
+/// An input that ends before a line feed: where want of memory is told, nothing was read of it, and nothing printed.
+pub fn replay_a_cut_line<S: Source, K: Sink, R: Rack>(
+    alloc: Global,
+    words: &Vec<String>,
+    source: &mut S,
+    sink: &mut K,
+    rack: &mut R,
+) -> Status
+    requires { IsCommand (map string_bytes words.now.items) Command.Replay }
+    ensures { (text : List ℕ) → HasNoLineFeed text → S.left source.old ≡ Some text → IsSome (S.left source.new) → result ≡ Status.NoMemory
+        → (S.left source.new ≡ S.left source.old) × (K.taken sink.new ≡ K.taken sink.old) }
 {
     run(alloc, words, source, sink, rack)
 }

@@ -16,7 +16,7 @@ mod saves;
 mod traced;
 mod words;
 
-pub use answers::{answer_an_image, audit_an_image, replay_lines};
+pub use answers::{answer_an_image, audit_an_image, replay_a_cut_line, replay_lines};
 pub use blanks::{Answer, find_no_array, refuse_an_empty_image};
 pub use drilled::drill_and_lose;
 pub use laws::{answers_are_promised, replies_are_a_function, replies_by_views};

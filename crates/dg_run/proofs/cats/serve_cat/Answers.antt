@@ -51,6 +51,7 @@ returns-in-Err-clause-wanting g c = λ is.
     let told = subst (λ k. Told (Took (file_text file.lines ++ last_line (codes "end ") c.in-Given.n)) (g.K.Sink.taken k) (g.K.Sink.taken c.end.new.self.sink.now)) c.new-lines.ensures.sink file.told in
     inr (inl (record {
       reply = Given file.lines;
+      notes = tt;
       steps = volume_steps g.R.Rack touch a b (Cat c.args.path.now) (Given file.lines) step;
       output = subst (λ k. Told (Took (reply_line (Given file.lines))) (g.K.Sink.taken c.args.sink.now) (g.K.Sink.taken k)) (search rules) (told_lines (file_text file.lines) (codes "end ") (concat file.lines) c.in-Given.n _ _ (ap length file.whole ∙ rule.1) told);
     }))

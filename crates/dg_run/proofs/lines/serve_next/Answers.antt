@@ -28,7 +28,7 @@ returns-in_err-serve-in-Event-clause-wanting g c = λ is.
     let e = rw c.in-Event.is at c.in_ok-event.ensures in
     let within = subst (λ (n : ℕ). n ≤ c.args.room) e.is.1 e.is.2 in
     ran_out_of g.R.Rack c.args.shape.now c.args.room c.in-Event.event (unread c.take_event.new.input) _ _ _ _ c.args.array.now c.serve.new.array
-    e.is.0 within e.took (c.in_err-serve-in-Event.ensures.wanting (search rules))
+    e.is.0 within e.took e.whole (c.in_err-serve-in-Event.ensures.wanting (search rules))
 
 pub returns-in_err-event-clause-goes : goal.returns-in_err-event-clause-goes
 returns-in_err-event-clause-goes g c = continues_none g.R.Rack g.met.R.Rack.made_none g.met.R.Rack.made_both g.met.R.Rack.after c.args.array.now c.requires.ready

@@ -1,13 +1,14 @@
-use Rattle.std.proofs.Common.{◌≡◌, ◌∙◌, ℕ, List, ap, refl, subst}
+use Rattle.std.proofs.Common.{◌≡◌, ◌∙◌, ◌^◌, ℕ, List, ap, refl, subst}
 use Rattle.std.specs.Prelude.{Err, None, Option}
 use Rattle.dg_model.specs.declared.events.Event.{Event}
 use Rattle.dg_io.specs.Told.{Told}
-use Rattle.dg_text.specs.Lines.{IsInPlace}
+use Rattle.dg_text.specs.Lines.{IsInPlace, longest}
 use Rattle.dg_run.specs.Events.{Begins}
 use Rattle.dg_run.specs.declared.events.Fault.TheVariants.{Read as FaultRead, NoMemory as FaultNoMemory}
 use Rattle.dg_run.specs.Inputs.{unread, ahead}
 use Rattle.dg_run.specs.Replays.{BrokeOff, IsCut, RanOut}
-use Rattle.dg_run.proofs.Broken.{broke_off_first, fresh_is, ran_out_first}
+use Rattle.dg_run.proofs.Breaks.{awaits_left}
+use Rattle.dg_run.proofs.Broken.{broke_off_first, fresh_is, ran_out_next, wants_array}
 use Rattle.dg_run.proofs.Whole.{IfOk-map, empty_part, refused_part, replay_done, replay_empty, replay_refused, replay_stopped}
 use Rattle.dg_run.proofs.replays.replay.Goals as goal
 
@@ -63,7 +64,14 @@ returns-in-Ok-Event-Array-default-clause-wanting g c =
     let e = rw arm.field-0-is at arm.ensures in
     let line = subst (λ (event : Event). Told (Begins None event) (ahead c.in_ok-input.input (g.S.Source.left c.args.source.now)) (ahead c.take_event.new.input (g.S.Source.left c.take_event.new.source))) arm.field-0-0-is e.took in
     IfOk-map c.replay_array.result _ _ (λ end h is. subst (λ (x : Option (List ℕ)). RanOut (g.R.Rack.counts c.args.rack) (g.R.Rack.tells end.rack) x (g.S.Source.left c.replay_array.new.source) (g.K.Sink.taken c.args.sink.now) (g.K.Sink.taken c.replay_array.new.sink))
-    (fresh_is (unread c.in_ok-input.input) (g.S.Source.left c.args.source.now) c.in_ok-input.ensures) (h is (ahead c.in_ok-input.input (g.S.Source.left c.args.source.now)) line)) c.replay_array.ensures.wanting
+    (fresh_is (unread c.in_ok-input.input) (g.S.Source.left c.args.source.now) c.in_ok-input.ensures) (h is (ahead c.in_ok-input.input (g.S.Source.left c.args.source.now)) line e.whole)) c.replay_array.ensures.wanting
+
+pub returns-in-Ok-Event-Array-default-clause-none : goal.returns-in-Ok-Event-Array-default-clause-none
+returns-in-Ok-Event-Array-default-clause-none g c =
+    let arm = c.in-Ok-Event-Array-default in
+    let e = rw arm.field-0-is at arm.ensures in
+    wants_array c.replay_array.result (unread c.in_ok-input.input) c.in_ok-input.ensures (g.S.Source.left c.args.source.now) (ahead c.take_event.new.input (g.S.Source.left c.take_event.new.source))
+    (g.S.Source.left c.replay_array.new.source) (g.K.Sink.taken c.args.sink.now) (g.K.Sink.taken c.replay_array.new.sink) e.whole c.replay_array.ensures.none
 
 pub returns-in-Ok-End-clause-part : goal.returns-in-Ok-End-clause-part
 returns-in-Ok-End-clause-part g c is =
@@ -87,6 +95,6 @@ returns-clause-broken g c = λ is.
 pub returns-clause-wanting : goal.returns-clause-wanting
 returns-clause-wanting g c = λ is.
     let fault : c.in-Err.fault ≡ FaultNoMemory = c.status_of.ensures.memory.0 is in
-    let told = c.take_event.ensures.wanting (c.in-Err.is ∙ ap Err fault) in
+    let told = awaits_left (longest None) (2 ^ 40) (unread c.take_event.new.input) _ (g.S.Source.left c.take_event.new.source) (c.take_event.ensures.line (c.in-Err.is ∙ ap Err fault)) in
     subst (λ (x : Option (List ℕ)). RanOut (g.R.Rack.counts c.args.rack) (g.R.Rack.tells c.args.rack) x (g.S.Source.left c.take_event.new.source) (g.K.Sink.taken c.args.sink.now) (g.K.Sink.taken c.args.sink.now))
-    (fresh_is (unread c.in_ok-input.input) (g.S.Source.left c.args.source.now) c.in_ok-input.ensures) (ran_out_first _ _ _ _ _ _ told refl)
+    (fresh_is (unread c.in_ok-input.input) (g.S.Source.left c.args.source.now) c.in_ok-input.ensures) (ran_out_next _ _ _ _ _ _ told refl)

@@ -46,11 +46,11 @@ returns-clause-part g c is text line =
     subst (λ r. IsCut (g.R.Rack.counts c.args.rack) (g.R.Rack.counts r) (g.R.Rack.bytes c.args.rack) (g.R.Rack.bytes r) (g.R.Rack.tells r) text (g.S.Source.left s.new.source) (g.K.Sink.taken c.args.sink.now) (g.K.Sink.taken s.new.sink)) (sym (into_below c.into_rack.ensures c.into_rack-left.ensures)) all
 
 pub returns-clause-wanting : goal.returns-clause-wanting
-returns-clause-wanting g c is text line =
+returns-clause-wanting g c is text line whole =
     let l = c.in_ok-live.ensures in
     let n = blank_ready g.R.Rack g.met.R.Rack.made_none g.met.R.Rack.made_both g.met.R.Rack.after c.args.shape c.args.rack c.in_ok-live.live c.in_ok-array.array c.requires.shape l.rack l.live l.none c.in_ok-array.ensures in
     let s = c.serve_array-status in
-    let all = array_ran_out g.R.Rack g.met.R.Rack.made_none g.met.R.Rack.made_both g.met.R.Rack.after c.args.shape c.args.first c.args.rack c.in_ok-array.array s.new.array c.requires.first c.requires.shape n s.ensures.goes text _ _ _ _ line (s.ensures.wanting is) in
+    let all = array_ran_out g.R.Rack g.met.R.Rack.made_none g.met.R.Rack.made_both g.met.R.Rack.after c.args.shape c.args.first c.args.rack c.in_ok-array.array s.new.array c.requires.first c.requires.shape n s.ensures.goes text _ _ _ _ line whole (s.ensures.wanting is) in
     subst (λ r. RanOut (g.R.Rack.counts c.args.rack) (g.R.Rack.tells r) text (g.S.Source.left s.new.source) (g.K.Sink.taken c.args.sink.now) (g.K.Sink.taken s.new.sink)) (sym (into_below c.into_rack.ensures c.into_rack-left.ensures)) all
 
 pub returns-clause-name : goal.returns-clause-name

@@ -16,5 +16,4 @@ returns-in-Ok-clause-ends g c =
 
 pub returns-in-Err-clause-ends : goal.returns-in-Err-clause-ends
 returns-in-Err-clause-ends g c =
-    let none = c.in-Err.ensures.none in
-    ran_out_first _ _ _ _ _ _ none.0 none.1
+    ran_out_first _ _ _ _ _ _ c.in-Err.ensures.none

@@ -1,6 +1,4 @@
-use Rattle.std.proofs.Common.{◌≡◌, ap, inl, rules, subst, sym}
-use Rattle.dg_io.specs.Told.{AreAny, Told}
-use Rattle.dg_run.proofs.ToldSteps.{Told-refl}
+use Rattle.std.proofs.Common.{◌≡◌, ap, inl, rules, subst}
 use Rattle.dg_run.specs.Calls.{facts_of}
 use Rattle.dg_run.specs.Resumes.{EndsResume}
 use Rattle.dg_run.proofs.resumes.serve_resume.Goals as goal
@@ -8,11 +6,7 @@ use Rattle.dg_run.proofs.resumes.serve_resume.Goals as goal
 pub returns-in-Err-clause-ends : goal.returns-in-Err-clause-ends
 returns-in-Err-clause-ends g c =
     let none = c.in-Err.ensures.none in
-    let left = g.S.Source.left in
-    inl (
-      subst (λ (s : g.row.S.Denot). Told AreAny (left c.args.source.now) (left s)) (sym none.0) (Told-refl AreAny (λ b. tt) (left c.args.source.now)),
-      ap g.K.Sink.taken none.1,
-    )
+    inl (ap g.S.Source.left none.0, ap g.K.Sink.taken none.1)
 
 pub returns-in-Ok-clause-ends : goal.returns-in-Ok-clause-ends
 returns-in-Ok-clause-ends g c =
