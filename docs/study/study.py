@@ -119,8 +119,8 @@ def line(points, colour, dash="", width=2):
     return f'<polyline points="{places}" fill="none" stroke="{colour}" stroke-width="{width}" stroke-dasharray="{dash}"/>'
 
 
-def panel(rows, b, at, value):
-    """One diagram: the shares over the number of lost boundaries, for one B."""
+def panel(b, at, curves):
+    """One diagram: the shares over the number of lost boundaries, for one B. A curve is its shares, colour, dashes and width."""
     def place(k, share):
         return at + WIDTH * k / b, TOP + HEIGHT * (1 - share)
 
@@ -132,31 +132,43 @@ def panel(rows, b, at, value):
         parts.append(text(place(k, 0)[0], TOP + HEIGHT + 16, k))
     parts.append(text(at + WIDTH / 2, TOP + HEIGHT + 34, "lost boundaries"))
     parts.append(text(at + WIDTH / 2, TOP - 10, f"{b} boundaries", 13))
-    parts.append(line([place(0, 1), place(0, 0), place(b, 0)], "#cb181d", width=3))
-    parts.append(line([place(k, share) for k, share in enumerate(curve(rows, b, 0, value))], "#fb6a4a", "5,4"))
-    for m in PLACES:
-        parts.append(line([place(k, share) for k, share in enumerate(curve(rows, b, m, value))], COLOURS[m]))
+    for shares, colour, dash, width in curves:
+        parts.append(line([place(k, share) for k, share in shares], colour, dash, width))
     return parts
 
 
-def legend(y):
+MIRROR = ("#cb181d", "", "striped mirror")
+ENTRIES = [*((COLOURS[m], "", f"settled, m = {m}") for m in PLACES), ("#fb6a4a", "5,4", "striped mirror, if it were still read"), MIRROR]
+
+
+def mirror(b):
+    """A striped mirror gives all, and nothing once a boundary is lost."""
+    return [(0, 1), (0, 0), (b, 0)], MIRROR[0], "", 3
+
+
+def curves_of(rows, b, value):
+    """The curves of one B, by the places of a naming block."""
+    drawn = [mirror(b), (enumerate(curve(rows, b, 0, value)), "#fb6a4a", "5,4", 2)]
+    return drawn + [(enumerate(curve(rows, b, m, value)), COLOURS[m], "", 2) for m in PLACES]
+
+
+def legend(y, entries):
     parts, x = [], LEFT
-    entries = [(COLOURS[m], "", f"settled, m = {m}") for m in PLACES]
-    entries += [("#fb6a4a", "5,4", "striped mirror, if it were still read"), ("#cb181d", "", "striped mirror")]
     for colour, dash, words in entries:
         parts += [line([(x, y), (x + 26, y)], colour, dash, 3), text(x + 32, y + 4, words, anchor="start")]
         x += 50 + 6.4 * len(words)
     return parts
 
 
-def figure(rows, title, value, name):
+def figure(title, name, curves, entries):
+    """A figure with a panel for each B, of the curves that this has."""
     width = LEFT + len(BOUNDARIES) * (WIDTH + GAP)
     height = TOP + HEIGHT + 76
     parts = [f'<svg xmlns="http://www.w3.org/2000/svg" width="{width}" height="{height}" font-family="sans-serif">',
              f'<rect width="{width}" height="{height}" fill="white"/>', text(LEFT, 18, title, 14, "start")]
     for i, b in enumerate(BOUNDARIES):
-        parts += panel(rows, b, LEFT + i * (WIDTH + GAP), value)
-    parts += legend(height - 16) + ["</svg>"]
+        parts += panel(b, LEFT + i * (WIDTH + GAP), curves(b))
+    parts += legend(height - 16, entries) + ["</svg>"]
     with open(os.path.join(HERE, name), "w") as out:
         out.write("\n".join(parts) + "\n")
 
@@ -192,9 +204,13 @@ def main():
     with open(path, newline="") as rows_in:
         rows = [{name: value if name == "lost" else int(value) for name, value in row.items()} for row in csv.DictReader(rows_in)]
     count, volume = len(study.files), sum(map(len, study.files.values()))
-    figure(rows, "Files that are still given", lambda row: row["files"] / count, "files.svg")
-    figure(rows, "Bytes that are still given", lambda row: row["bytes"] / volume, "bytes.svg")
-    figure(rows, "Directories that are still listed", lambda row: row["directories"] / len(study.directories), "directories.svg")
+    drawn = {
+        "files": ("Files that are still given", lambda row: row["files"] / count),
+        "bytes": ("Bytes that are still given", lambda row: row["bytes"] / volume),
+        "directories": ("Directories that are still listed", lambda row: row["directories"] / len(study.directories)),
+    }
+    for name, (title, value) in drawn.items():
+        figure(title, f"{name}.svg", lambda b, value=value: curves_of(rows, b, value), ENTRIES)
     table(rows, study)
 
 
