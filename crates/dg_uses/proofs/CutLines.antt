@@ -28,7 +28,7 @@ lines_fed events last more =
 
 -- what was told at first, and still is, was changed by the step
 told_step : (step : List ℕ → List ℕ → Type 0) (left rest : Option (List ℕ)) (text : List ℕ) → left ≡ Some text → IsSome rest → Told step left rest → (after : List ℕ) × step text after
-told_step step left None text is some told = absurd some
+told_step step left None text is some told = absurd (cc some)
 told_step step None (Some after) text is some told = absurd told
 told_step step (Some before) (Some after) text is some told = let same : before ≡ text = cc is in (after, subst (λ (l : List ℕ). step l after) same told)
 
