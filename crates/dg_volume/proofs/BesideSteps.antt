@@ -1,5 +1,5 @@
 -- What an opening makes with what is kept beside the saved state.
-use Rattle.std.proofs.Common.{◌≡◌, ◌∙◌, ◌<◌, ◌≤◌, ◌+◌, ℕ, Bool, true, false, List, get_or, length, inl, inr, refl, sym, ap, subst, arith}
+use Rattle.std.proofs.Common.{◌≡◌, ◌∙◌, ◌<◌, ◌≤◌, ◌+◌, ℕ, Bool, true, false, List, get_or, length, inl, inr, refl, sym, ap, subst, arith, zero-add}
 use Rattle.std.specs.Prelude.{All, None, Option, Some, replicate, slice_set}
 use Rattle.std.specs.List.{Contains, range_with_len}
 use Rattle.std.specs.List.Sorted.{IsStrictlyIncreasing}
@@ -8,9 +8,9 @@ use Rattle.std.proofs.lemmas.List.{get_or-set_other, get_or-set_same, get_or_def
 use Rattle.std.proofs.lemmas.List.FromFn.{get_or-range_with_len, length-range_with_len}
 use Rattle.std.proofs.lemmas.List.Kept.{IsStrictlyIncreasing-filter}
 use Rattle.dg_io.specs.declared.outside.Rack.{Ghosts}
-use Rattle.dg_model.specs.Lives.{AreLive, all_live}
+use Rattle.dg_model.specs.Lives.{AreLive}
 use Rattle.dg_model.specs.Marks.{is_marked, marked}
-use Rattle.dg_model.specs.Openings.{FitsReduced, Reduced, all_in_use}
+use Rattle.dg_model.specs.Openings.{FitsReduced, Reduced}
 use Rattle.dg_model.specs.Tables.{IsTable, Table}
 use Rattle.dg_model.specs.declared.shapes.Shape.{Shape}
 use Rattle.dg_open.specs.Reopenings.{HasReopened}
@@ -24,8 +24,7 @@ use Rattle.dg_volume.proofs.OrderLaws.{filter_in, in_filter, range_ascends, same
 use Rattle.dg_volume.proofs.PlaceLaws.{fits_all, none_marked}
 use Rattle.dg_volume.specs.Besides.{CanBeCut, CannotOpen, FindsUnfit, FitsTable, IsEnough, IsReducedBy, IsReducedOr, OpensKept}
 use Rattle.dg_volume.specs.Opens.{HasOpened, IsMadeOf}
-use Rattle.dg_volume.specs.Volumes.{reduced_in, reduced_of}
-use Rattle.dg_volume.specs.declared.in_use.InUse.{InUse}
+use Rattle.dg_volume.specs.Volumes.{reduced_of}
 use Rattle.dg_volume.specs.declared.phases.AnyPhase.{AnyPhase}
 use Rattle.dg_volume.specs.declared.volumes.Volume.{Volume}
 
@@ -41,7 +40,7 @@ in_marked : (marks : List Bool) (b : ℕ) → is_marked marks b ≡ true → Con
 in_marked marks b is =
     let low = marked_low marks b is in
     let numbers = range_with_len 0 (length marks) in
-    filter_in (λ c. is_marked marks c) numbers b (b, omega (arith, low, length-range_with_len 0 (length marks)), get_or-range_with_len 0 (length marks) b b low) is
+    filter_in (λ c. is_marked marks c) numbers b (b, omega (arith, low, length-range_with_len 0 (length marks)), get_or-range_with_len 0 (length marks) b b low ∙ zero-add b) is
 
 -- Of these blocks those before a place are marked, and no others but some of them.
 pub record AreMarkedTo (blocks : List ℕ) (n place : ℕ) (marks : List Bool) : Type 0 where
@@ -106,11 +105,6 @@ reduced_by table extra reduced form can boundaries live size cut = record {
     unsited = λ b is. (can_cut table extra.cut b can.cut (subst (λ (xs : List ℕ). Contains xs b) cut (in_marked reduced.cut b is))).1;
   };
 }
-
--- all boundaries, and no cut block
-pub all_reduced : (shape : Shape) (in_use : InUse) → in_use.boundaries ≡ shape.b → in_use.live.items ≡ all_live shape.b → in_use.cut.items ≡ replicate shape.n false
-    → reduced_in in_use ≡ all_in_use shape
-all_reduced shape in_use boundaries live cut = λ i. record { boundaries = boundaries i; live = live i; cut = cut i }
 
 -- ---- the whole
 

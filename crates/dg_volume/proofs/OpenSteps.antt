@@ -1,9 +1,11 @@
 -- What an opening makes is in a state that the model opens.
-use Rattle.std.proofs.Common.{◌≡◌, ◌≢◌, ◌⊎◌, ◌∙◌, ◌<◌, ◌≤◌, ◌+◌, ◌*◌, ℕ, Bool, true, false, List, [], length, drop, get_or, inl, inr, refl, sym, ap, subst, take, arith, ◌/◌, ◌&&◌}
+use Rattle.std.proofs.Common.{◌≡◌, ◌≢◌, ◌⊎◌, ◌∙◌, ◌<◌, ◌≤◌, ◌+◌, ◌*◌, ℕ, Bool, true, false, List, [], length, drop, get_or, inl, inr, refl, sym, ap, subst, take, arith, ◌/◌, ◌&&◌, zero, suc}
+use Rattle.std.specs.List.Sorted.{IsStrictlyIncreasing}
 use Rattle.std.specs.Prelude.{◌==◌, IfSome, IsSome, MatchOption, Option, Some, None, is_some}
 use Rattle.std.proofs.lemmas.Bool.{and_from, and_parts, cases_lt, false≢true}
 use Rattle.std.proofs.lemmas.List.{get_or_default, same_lists}
 use Rattle.std.proofs.lemmas.List.Elements.{All-nil, All-weaker}
+use Rattle.std.proofs.lemmas.List.Kept.{AllPairs-from_increasing}
 use Rattle.dg_infer.specs.Meanings.{KeptInference}
 use Rattle.dg_infer.specs.Meanings as inferences
 use Rattle.dg_io.specs.MadeLaws.{same_both}
@@ -19,6 +21,7 @@ use Rattle.dg_label.specs.declared.labels.KeptLabel.{KeptLabel}
 use Rattle.dg_model.specs.Blocks.{block_in}
 use Rattle.dg_model.specs.Causes.{Rose}
 use Rattle.dg_model.specs.Changes.{IsInOrder}
+use Rattle.dg_model.specs.Lives.{AreLive}
 use Rattle.dg_model.specs.Marks.{AreLeft, AreNext}
 use Rattle.dg_model.specs.Members.{HasFallen, SlotHolds, SlotOf, is_filling, is_good, slot_of}
 use Rattle.dg_model.specs.Openings.{FitsReduced, Found, IsReopened, MayBeGood, Opens, Reduced, all_in_use, copies_after}
@@ -50,7 +53,6 @@ use Rattle.dg_store.specs.Stores as stores
 use Rattle.dg_store.specs.declared.store.Store.{Store}
 use Rattle.dg_volume.proofs.FaultLaws.{falls_out, keeps_tells}
 use Rattle.dg_volume.proofs.LabelLaws.{filling_not_good, good_falls, length_stays, stands_through}
-use Rattle.dg_volume.proofs.PlaceLaws.{live_few}
 use Rattle.dg_volume.specs.Origins.{WasHeld}
 use Rattle.dg_volume.specs.Origins.Origin.{held as blocks_held}
 use Rattle.dg_volume.specs.Opens.{HasOpenedBeside, IsDisordered, IsMadeOf, IsOrdered, IsPhaseOf, IsRestored, had}
@@ -417,6 +419,26 @@ module _ {R : Type 0} (rack : Ghosts R) (old new : Store R) (saved : SavedState)
         loose = λ e. absurd (settled_loose (sym phase_is ∙ e));
         copies = copies_are ∙ ap (λ (p : Phase). copies_after p saved.copies) (sym phase_is);
       }
+
+-- ---- boundaries in use
+
+-- a boundary's number is at least its place
+above : (live : List ℕ) → IsStrictlyIncreasing live → (k : ℕ) → k < length live → k ≤ get_or live k 0
+above live rise zero within = omega arith
+above live rise (suc k) within =
+    let before : k ≤ get_or live k 0 = above live rise k (omega (arith, within)) in
+    let next : get_or live k 0 < get_or live (suc k) 0 = AllPairs-from_increasing live rise k (suc k) 0 (omega arith) within in
+    omega (arith, before, next)
+
+-- no more are in use than there are
+live_few : (boundaries : ℕ) (live : List ℕ) → AreLive boundaries live → length live ≤ boundaries
+live_few boundaries live are = elim (cases_lt boundaries (length live)) [
+  | inl more ↦
+      let most : get_or live boundaries 0 < boundaries = are.within boundaries 0 more in
+      let least = above live are.ascend boundaries more in
+      absurd (omega (arith, most, least))
+  | inr less ↦ less
+]
 
 -- ---- the whole
 

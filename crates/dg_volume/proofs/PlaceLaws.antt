@@ -1,16 +1,16 @@
 -- The places of boundaries among those in use, and the marks of cut blocks.
-use Rattle.std.proofs.Common.{◌≡◌, ◌≢◌, ◌∙◌, ◌<◌, ◌≤◌, ◌+◌, ◌*◌, ◌||◌, ◌++◌, ℕ, zero, suc, Bool, true, false, List, [], ◌∷◌, get_or, length, inl, inr, refl, sym, ap, subst, arith}
+use Rattle.std.proofs.Common.{◌≡◌, ◌≢◌, ◌∙◌, ◌<◌, ◌+◌, ◌*◌, ◌||◌, ◌++◌, ℕ, zero, suc, Bool, true, false, List, [], ◌∷◌, get_or, length, inl, inr, refl, sym, ap, subst, arith}
 use Rattle.std.specs.Prelude.{◌==◌, All, None, Option, Some, replicate, slice_set}
 use Rattle.std.specs.List.{list_any, range_with_len}
 use Rattle.std.specs.List.Sorted.{IsStrictlyIncreasing}
 use Rattle.std.specs.Option.{option_map}
-use Rattle.std.proofs.lemmas.Bool.{cases_eq, cases_lt, false≢true}
+use Rattle.std.proofs.lemmas.Bool.{cases_eq, false≢true}
 use Rattle.std.proofs.lemmas.Bool.Decides.{nat_tests}
 use Rattle.std.proofs.lemmas.List.{get_or-set_other, get_or-set_same, length-replicate, length-set}
 use Rattle.std.proofs.lemmas.List.FromFn.{get_or-range_with_len, length-range_with_len}
 use Rattle.std.proofs.lemmas.List.Kept.{AllPairs-from_increasing}
 use Rattle.std.proofs.lemmas.List.Sums.{position_or_len_is}
-use Rattle.dg_model.specs.Lives.{AreLive, all_live, boundary_at, place_in}
+use Rattle.dg_model.specs.Lives.{all_live, boundary_at, place_in}
 use Rattle.dg_model.specs.Marks.{is_marked}
 use Rattle.dg_model.specs.Members.{is_lost}
 use Rattle.dg_model.specs.Openings.{FitsReduced, Reduced, all_in_use}
@@ -54,24 +54,6 @@ place_at live x rise within = position_or_len_is (λ t. t == boundary_at live x)
   where
     before : (k : ℕ) → k < x → (get_or live k 0 == boundary_at live x) ≡ false
     before k less = let low : get_or live k 0 < get_or live x 0 = AllPairs-from_increasing live rise k x 0 less within in grind (arith, nat_tests)
-
--- a boundary's number is at least its place
-above : (live : List ℕ) → IsStrictlyIncreasing live → (k : ℕ) → k < length live → k ≤ get_or live k 0
-above live rise zero within = omega arith
-above live rise (suc k) within =
-    let before : k ≤ get_or live k 0 = above live rise k (omega (arith, within)) in
-    let next : get_or live k 0 < get_or live (suc k) 0 = AllPairs-from_increasing live rise k (suc k) 0 (omega arith) within in
-    omega (arith, before, next)
-
--- no more are in use than there are
-pub live_few : (boundaries : ℕ) (live : List ℕ) → AreLive boundaries live → length live ≤ boundaries
-live_few boundaries live are = elim (cases_lt boundaries (length live)) [
-  | inl more ↦
-      let most : get_or live boundaries 0 < boundaries = are.within boundaries 0 more in
-      let least = above live are.ascend boundaries more in
-      absurd (omega (arith, most, least))
-  | inr less ↦ less
-]
 
 -- the least one that is lost is so by its number
 pub least_at : (shape : Shape) (live : List ℕ) (members : ℕ → MemberState) (x : ℕ) → IsStrictlyIncreasing live → length live ≡ shape.b → IsLeastLost shape members x

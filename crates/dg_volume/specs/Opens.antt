@@ -113,7 +113,7 @@ had before (Some now) = before
 -- members 0 to 31 were called; and this is the volume. `first` says what members did before blocks were read: one was good only where it
 -- may be. Of each list of blocks the volume is in a state that the model opens, the content of which is known where these held the blocks
 -- before. (Two members that were good at first may hold other blocks, and then no content is known.)
-pub record HasOpenedBeside {R : Type 0} (rack : Ghosts R) (beside : Option Reduced) (before : R) (volume : Volume AnyPhase R) (hot : List ℕ) : Type 0 where
+pub record HasOpenedBeside {R : Type 0} (rack : Ghosts R) (reduced : Option Reduced) (before : R) (volume : Volume AnyPhase R) (hot : List ℕ) : Type 0 where
   pub well : IsWell any_phase rack volume
   pub given_is : given_of volume ≡ None
   pub stays : RackStays rack before (rack_of volume)
@@ -134,7 +134,7 @@ pub record HasOpenedBeside {R : Type 0} (rack : Ghosts R) (beside : Option Reduc
   pub falls : MembersFall (rack.counts before).faults (rack.counts (rack_of volume)).faults first (members_of volume)
   pub states_are : (V : List (List ℕ)) →
       let P : Type 0 = WasHeld rack (held (record { table = table_of volume; members = first; bytes = rack.bytes before; blocks = V })) in
-      (state : State) × (state.blocks ≡ V) × Opens (Known P rack volume) taken beside (rack.counts before) state
+      (state : State) × (state.blocks ≡ V) × Opens (Known P rack volume) taken reduced (rack.counts before) state
       × StandsIn any_phase rack P volume state × (state.recent ≡ hot)
 
 -- where nothing stands beside it

@@ -60,9 +60,10 @@ pub fn open<R: Rack + Drop>(alloc: Global, rack: R) -> Result<OpenAnswer<R>, NoM
 
 /// Opens the array that was saved on a rack, with the extra bytes that the rack keeps beside it. Nothing is written.
 ///
-/// They say which boundaries are in use, and which blocks were cut; where there are none, all boundaries are in use, and no block was cut. Where
-/// they say nothing there is no state, before anything is looked at. There is none either where what they say doesn't fit the array that is found:
-/// it has not as many boundaries, or hasn't a cut block, or that has a site; or where the rack's room is less than what such an array may keep.
+/// The bytes say which boundaries are in use, and which blocks were cut. Where there are none, all boundaries are in use, and no block was cut.
+/// Where they say nothing there is no state, and no call is made. Behind the opening by labels there is none either where what they say doesn't fit
+/// the array (it has as many boundaries as are in use, and each cut block is one of its own and has no site), or where the rack has less room than
+/// such an array may need.
 pub fn open_kept<R: Checkpoint + Drop>(
     alloc: Global,
     rack: R,
