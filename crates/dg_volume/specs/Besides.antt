@@ -65,19 +65,20 @@ FitsNot table extra = (length extra.live ≢ table.shape.b) ⊎ HasBadCut table 
 abbrev pub CannotOpen : Table → Option ℕ → Option Extra → Type 0
 CannotOpen table room kept = IsTooLittle table.shape.n room ⊎ IsSomeAnd kept (FitsNot table)
 
--- The same of an array with these sites: the boundaries of the first line and those in use, and a mark for each cut block. It fits.
+-- This is what is kept, as it stands beside an array with these sites: the boundaries of the first line and those in use, and a mark for each cut
+-- block. It fits the array.
 pub record IsReducedBy (table : Table) (extra : Extra) (reduced : Reduced) : Type 0 where
   pub boundaries : reduced.boundaries ≡ extra.boundaries
   pub live : reduced.live ≡ extra.live
   pub cut : marked reduced.cut ≡ extra.cut
   pub fits : FitsReduced table reduced
 
--- what is in use of it, and cut: all, and nothing, where nothing is kept
+-- this is in use of such an array, and cut, by what is kept: where nothing is, all boundaries, and no block
 abbrev pub IsReducedOr : Table → Option Extra → Reduced → Type 0
 IsReducedOr table None reduced = reduced ≡ all_in_use table.shape
 IsReducedOr table (Some extra) reduced = IsReducedBy table extra reduced
 
--- what stands beside the saved state: nothing where nothing is kept
+-- this stands beside its saved state: nothing where nothing is kept
 abbrev pub StandsBeside : Table → Option Extra → Option Reduced → Type 0
 StandsBeside table None beside = beside ≡ None
 StandsBeside table (Some extra) beside = IsSomeAnd beside (IsReducedBy table extra)
