@@ -1,4 +1,4 @@
-use Rattle.std.proofs.Common.{◌≡◌, ◌∙◌, ◌+◌, ◌*◌, ◌++◌, ℕ, ap, arith}
+use Rattle.std.proofs.Common.{◌≡◌, ◌∙◌, ◌<◌, ◌+◌, ◌*◌, ◌++◌, ℕ, ap, arith, length}
 use Rattle.std.specs.Prelude.{codes}
 use Rattle.std.specs.Fmt.{decimal}
 use Rattle.dg_model.specs.Tables.{used_in}
@@ -10,18 +10,23 @@ use Rattle.dg_saved.specs.Texts.{pair_words}
 use Rattle.dg_volume.specs.Volumes.{live_of, members_of, table_of}
 use Rattle.dg_saved.proofs.texts.push_boundary.Goals as goal
 
-pub boundary-requires-clause-in_use : goal.boundary-requires-clause-in_use
-boundary-requires-clause-in_use g c = place_below (live_of c.args.volume.now) c.live.result.now c.args.s c.live.ensures c.requires.well.in_use.live.ascend (omega (arith, c.requires.boundary, c.requires.well.in_use.number))
+pub boundary-boundary-requires-clause-in_use : goal.boundary-boundary-requires-clause-in_use
+boundary-boundary-requires-clause-in_use g c =
+    place_below (live_of c.args.volume.now) c.live.result.now c.args.s c.live.ensures c.requires.well.in_use.live.ascend
+    (omega (arith, c.requires.boundary, c.requires.well.in_use.number))
 
 pub used-requires-clause-in_use : goal.used-requires-clause-in_use
-used-requires-clause-in_use g c = place_below (live_of c.args.volume.now) c.live.result.now c.args.s c.live.ensures c.requires.well.in_use.live.ascend (omega (arith, c.requires.boundary, c.requires.well.in_use.number))
+used-requires-clause-in_use g c =
+    place_below (live_of c.args.volume.now) c.live.result.now c.args.s c.live.ensures c.requires.well.in_use.live.ascend
+    (omega (arith, c.requires.boundary, c.requires.well.in_use.number))
 
 pub returns : goal.returns
 returns g c =
     let s = c.args.s in
     let b = c.boundary-boundary.result.now in
     let v = c.args.volume.now in
-    let place = place_of (live_of v) c.live.result.now s c.live.ensures c.requires.well.in_use.live.ascend (omega (arith, c.requires.boundary, c.requires.well.in_use.number)) in
+    let low : s < length (live_of v) = omega (arith, c.requires.boundary, c.requires.well.in_use.number) in
+    let place = place_of (live_of v) c.live.result.now s c.live.ensures c.requires.well.in_use.live.ascend low in
     let number = c.boundary-boundary.ensures.number ∙ place in
     let first : c.member.result ≡ members_of v (2 * s) =
     c.member.ensures ∙ ap (λ (n : ℕ). boundary_members b (2 * n + 0)) number
