@@ -1,5 +1,6 @@
 mod Lined
 mod Opened
+mod Places
 mod Served
 mod TextLines
 mod Unopened

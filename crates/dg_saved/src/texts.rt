@@ -66,7 +66,7 @@ fn push_pair(text: &mut Vec<u8>, first: MemberState, second: MemberState) -> Res
     }
 }
 
-/// Appends the line of a boundary.
+/// Appends the line of a boundary, by its place among those in use.
 fn push_boundary<R: Rack>(
     text: &mut Vec<u8>,
     volume: &Volume<AnyPhase, R>,
@@ -76,11 +76,12 @@ fn push_boundary<R: Rack>(
     requires boundary { s < (shape_of volume.now).b }
     ensures { OnOk result (text.new.items ≡ text.old.items ++ boundary_line (table_of volume.now) (members_of volume.now) s) }
 {
-    let boundary = volume.boundary(s);
+    let number = volume.live()[s as usize];
+    let boundary = volume.boundary(number);
     push_words(text, b"boundary ", s as u32)?;
     push(text, b" ")?;
     push_pair(text, boundary.member(0), boundary.member(1))?;
-    push_words(text, b" ", volume.used(s))?;
+    push_words(text, b" ", volume.used(number))?;
     push(text, b"\n")
 }
 

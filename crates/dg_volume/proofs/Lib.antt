@@ -1,6 +1,7 @@
 mod AnyLaws
 mod ArrayLaws
 mod AuditSteps
+mod BesideSteps
 mod BlankLaws
 mod CheckpointSteps
 mod CommitLaws

@@ -1,9 +1,11 @@
 -- What an opening makes is in a state that the model opens.
-use Rattle.std.proofs.Common.{◌≡◌, ◌≢◌, ◌⊎◌, ◌∙◌, ◌<◌, ◌≤◌, ◌+◌, ◌*◌, ℕ, Bool, true, false, List, [], length, drop, get_or, inl, inr, refl, sym, ap, subst, take, arith, ◌/◌, ◌&&◌}
-use Rattle.std.specs.Prelude.{◌==◌, IfSome, IsSome, Option, Some, None, is_some, replicate}
+use Rattle.std.proofs.Common.{◌≡◌, ◌≢◌, ◌⊎◌, ◌∙◌, ◌<◌, ◌≤◌, ◌+◌, ◌*◌, ℕ, Bool, true, false, List, [], length, drop, get_or, inl, inr, refl, sym, ap, subst, take, arith, ◌/◌, ◌&&◌, zero, suc}
+use Rattle.std.specs.List.Sorted.{IsStrictlyIncreasing}
+use Rattle.std.specs.Prelude.{◌==◌, IfSome, IsSome, MatchOption, Option, Some, None, is_some}
 use Rattle.std.proofs.lemmas.Bool.{and_from, and_parts, cases_lt, false≢true}
 use Rattle.std.proofs.lemmas.List.{get_or_default, same_lists}
 use Rattle.std.proofs.lemmas.List.Elements.{All-nil, All-weaker}
+use Rattle.std.proofs.lemmas.List.Kept.{AllPairs-from_increasing}
 use Rattle.dg_infer.specs.Meanings.{KeptInference}
 use Rattle.dg_infer.specs.Meanings as inferences
 use Rattle.dg_io.specs.MadeLaws.{same_both}
@@ -19,7 +21,7 @@ use Rattle.dg_label.specs.declared.labels.KeptLabel.{KeptLabel}
 use Rattle.dg_model.specs.Blocks.{block_in}
 use Rattle.dg_model.specs.Causes.{Rose}
 use Rattle.dg_model.specs.Changes.{IsInOrder}
-use Rattle.dg_model.specs.Lives.{all_live}
+use Rattle.dg_model.specs.Lives.{AreLive}
 use Rattle.dg_model.specs.Marks.{AreLeft, AreNext}
 use Rattle.dg_model.specs.Members.{HasFallen, SlotHolds, SlotOf, is_filling, is_good, slot_of}
 use Rattle.dg_model.specs.Openings.{FitsReduced, Found, IsReopened, MayBeGood, Opens, Reduced, all_in_use, copies_after}
@@ -51,10 +53,9 @@ use Rattle.dg_store.specs.Stores as stores
 use Rattle.dg_store.specs.declared.store.Store.{Store}
 use Rattle.dg_volume.proofs.FaultLaws.{falls_out, keeps_tells}
 use Rattle.dg_volume.proofs.LabelLaws.{filling_not_good, good_falls, length_stays, stands_through}
-use Rattle.dg_volume.proofs.PlaceLaws.{fits_all}
 use Rattle.dg_volume.specs.Origins.{WasHeld}
 use Rattle.dg_volume.specs.Origins.Origin.{held as blocks_held}
-use Rattle.dg_volume.specs.Opens.{HasOpened, IsDisordered, IsMadeOf, IsOrdered, IsPhaseOf, IsRestored, had}
+use Rattle.dg_volume.specs.Opens.{HasOpenedBeside, IsDisordered, IsMadeOf, IsOrdered, IsPhaseOf, IsRestored, had}
 use Rattle.dg_volume.specs.Phases.{kept_in, phase_in}
 use Rattle.dg_volume.specs.Planned.{HasReadArray}
 use Rattle.dg_volume.specs.Volumes.{FitsArray, IsInPlace, IsWell, Known, StandsIn, StandsUnder, any_phase, cut_of, line_of, live_of, marks_by, marks_of, members_of, rack_of, reduced_of, shape_of, table_of}
@@ -419,10 +420,32 @@ module _ {R : Type 0} (rack : Ghosts R) (old new : Store R) (saved : SavedState)
         copies = copies_are ∙ ap (λ (p : Phase). copies_after p saved.copies) (sym phase_is);
       }
 
+-- ---- boundaries in use
+
+-- a boundary's number is at least its place
+above : (live : List ℕ) → IsStrictlyIncreasing live → (k : ℕ) → k < length live → k ≤ get_or live k 0
+above live rise zero within = omega arith
+above live rise (suc k) within =
+    let before : k ≤ get_or live k 0 = above live rise k (omega (arith, within)) in
+    let next : get_or live k 0 < get_or live (suc k) 0 = AllPairs-from_increasing live rise k (suc k) 0 (omega arith) within in
+    omega (arith, before, next)
+
+-- no more are in use than there are
+live_few : (boundaries : ℕ) (live : List ℕ) → AreLive boundaries live → length live ≤ boundaries
+live_few boundaries live are = elim (cases_lt boundaries (length live)) [
+  | inl more ↦
+      let most : get_or live boundaries 0 < boundaries = are.within boundaries 0 more in
+      let least = above live are.ascend boundaries more in
+      absurd (omega (arith, most, least))
+  | inr less ↦ less
+]
+
 -- ---- the whole
 
-module _ (one : OneOwner) (none : NoSystem) {R : Type 0} (rack : Ghosts R) (before : R) (reopened : Reopened R) (volume : Volume AnyPhase R) (hot : List ℕ)
-    (found : HasReopened rack before reopened) (made : IsMadeOf rack reopened volume hot) where
+module _ (one : OneOwner) (none : NoSystem) {R : Type 0} (rack : Ghosts R) (before : R) (beside : Option Reduced) (reopened : Reopened R) (volume : Volume AnyPhase R)
+    (hot : List ℕ) (found : HasReopened rack before reopened)
+    (reduced_is : MatchOption beside (reduced_of volume ≡ all_in_use (stores.table_of reopened.store).shape) (λ stands. reduced_of volume ≡ stands))
+    (fits : FitsReduced (stores.table_of reopened.store) (reduced_of volume)) (made : IsMadeOf rack reopened volume hot) where
   abbrev start : Store R
   start = reopened.store
 
@@ -483,10 +506,8 @@ module _ (one : OneOwner) (none : NoSystem) {R : Type 0} (rack : Ghosts R) (befo
         | inr high ↦ let few = found.sound.table.shape.most_boundaries in absurd (is (found.sound.others q (omega (arith, high, few))))
       ]
 
-  in_use_all : FitsReduced (table_of volume) (reduced_of volume)
-  in_use_all =
-      let all : all_in_use (shape_of volume) ≡ reduced_of volume = λ i. record { boundaries = sym made.boundaries i; live = sym made.live i; cut = sym made.cut i } in
-      subst (λ (r : Reduced). FitsReduced (table_of volume) r) all (fits_all (table_of volume) made.reads.sound.table)
+  in_use_fits : FitsReduced (table_of volume) (reduced_of volume)
+  in_use_fits = subst (λ (t : Table). FitsReduced t (reduced_of volume)) (sym made.reads.reads.table) fits
 
   -- members are as long by its own numbers
   own_line : stores.shape_of start ≡ line_of volume
@@ -500,8 +521,8 @@ module _ (one : OneOwner) (none : NoSystem) {R : Type 0} (rack : Ghosts R) (befo
     levels = made.levels;
     marks = marks_size rack start volume.store saved made.reads.reads.table volume.phase volume.pending.items (shape_of volume).n made.phase size (ap length made.pending ∙ size);
     inferred = fits_phase rack start volume.store saved made.reads.reads.table volume.phase made.phase;
-    in_use = in_use_all;
-    long = omega (arith, made.long, made.boundaries);
+    in_use = in_use_fits;
+    long = let few = live_few volume.in_use.boundaries (live_of volume) in_use_fits.live in omega (arith, made.long, in_use_fits.number, few);
     labeled =
         subst (λ (x : Shape). IsLabeled rack x volume.store volume.label) own_line
         (subst (λ (l : Option KeptLabel). IsLabeled rack (stores.shape_of start) volume.store l) (sym made.label)
@@ -595,18 +616,18 @@ module _ (one : OneOwner) (none : NoSystem) {R : Type 0} (rack : Ghosts R) (befo
         subst (λ (t : Table). states.StandsFor t (stores.members_of start) (rack.bytes (stores.rack_of start)) V) made.reads.reads.table
         (held_same (table_of volume) (stores.members_of start) (rack.bytes before) (rack.bytes (stores.rack_of start)) V found.leaves.same (told.1))
 
-    opens : Opens (Known P rack volume) found.taken None (rack.counts before) (opened V)
+    opens : Opens (Known P rack volume) found.taken beside (rack.counts before) (opened V)
     opens = record {
       source = found.source;
       label = found.label;
       saved = saved;
       is_source = found.is_source;
-      reduced = all_in_use saved.table.shape;
-      reduced_is = refl;
-      fits = fits_all saved.table found.form.table;
-      boundaries = made.boundaries ∙ ap (λ (t : Table). t.shape.b) table_saved;
-      live = made.live ∙ ap (λ (t : Table). all_live t.shape.b) table_saved;
-      cut = made.cut ∙ ap (λ (t : Table). replicate t.shape.n false) table_saved;
+      reduced = reduced_of volume;
+      reduced_is = subst (λ (t : Table). MatchOption beside (reduced_of volume ≡ all_in_use t.shape) (λ stands. reduced_of volume ≡ stands)) found.table reduced_is;
+      fits = subst (λ (t : Table). FitsReduced t (reduced_of volume)) found.table fits;
+      boundaries = refl;
+      live = refl;
+      cut = refl;
       table = table_saved;
       homes = made.homes;
       recent = made.recent;
@@ -631,7 +652,7 @@ module _ (one : OneOwner) (none : NoSystem) {R : Type 0} (rack : Ghosts R) (befo
       };
     }
 
-  pub has_opened : HasOpened rack before volume hot
+  pub has_opened : HasOpenedBeside rack beside before volume hot
   has_opened = record {
     well = well;
     given_is = made.given;

@@ -1,4 +1,5 @@
 pub mod Audits
+pub mod Besides
 pub mod Commits
 pub mod Copies
 pub mod CutReads

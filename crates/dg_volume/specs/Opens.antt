@@ -1,14 +1,13 @@
 -- What opening a saved array gives, by its answer.
-use Rattle.std.specs.Prelude.{◌≡◌, ◌⊎◌, ◌+◌, ◌/◌, ◌<◌, ◌≤◌, ℕ, Bool, true, false, List, Option, Some, None, replicate}
+use Rattle.std.specs.Prelude.{◌≡◌, ◌⊎◌, ◌+◌, ◌/◌, ◌<◌, ◌≤◌, ℕ, Bool, true, false, List, Option, Some, None}
 use Rattle.dg_infer.specs.Meanings.{KeptInference}
 use Rattle.dg_infer.specs.Meanings as inferences
 use Rattle.dg_io.specs.Makes.{Makes}
 use Rattle.dg_io.specs.Told.{IsSame, Told}
 use Rattle.dg_io.specs.declared.outside.Rack.{Ghosts}
-use Rattle.dg_model.specs.Lives.{all_live}
 use Rattle.dg_model.specs.Marks.{AreLeft}
 use Rattle.dg_model.specs.Members.{MembersFall}
-use Rattle.dg_model.specs.Openings.{Found, IsSource, MayBeGood, Opens, copies_after}
+use Rattle.dg_model.specs.Openings.{Found, IsSource, MayBeGood, Opens, Reduced, copies_after}
 use Rattle.dg_model.specs.Placed.{IsPlaced}
 use Rattle.dg_model.specs.Saves.{Label, SavedState}
 use Rattle.dg_model.specs.States.{State, has_lost}
@@ -30,7 +29,7 @@ use Rattle.dg_volume.specs.Origins.{WasHeld}
 use Rattle.dg_volume.specs.Origins.Origin.{held}
 use Rattle.dg_volume.specs.Phases.{phase_in}
 use Rattle.dg_volume.specs.Planned.{AreWanted, FindsOn, HasReadArray}
-use Rattle.dg_volume.specs.Volumes.{FitsArray, IsWell, Known, StandsIn, any_phase, cut_of, given_of, live_of, members_of, rack_of, shape_of, table_of}
+use Rattle.dg_volume.specs.Volumes.{FitsArray, IsWell, Known, StandsIn, any_phase, given_of, members_of, rack_of, shape_of, table_of}
 use Rattle.dg_volume.specs.declared.opens.OpenAnswer.{OpenAnswer}
 use Rattle.dg_volume.specs.declared.opens.OpenAnswer.TheVariants.{NoState, Opened, Unclean}
 use Rattle.dg_volume.specs.declared.phases.AnyPhase.{AnyPhase}
@@ -100,10 +99,7 @@ pub record IsMadeOf {R : Type 0} (rack : Ghosts R) (reopened : Reopened R) (volu
   pub pending : volume.pending.items ≡ reopened.saved.pending
   pub homes : volume.homes ≡ reopened.saved.homes
   pub copies : volume.copies ≡ copies_after (phase_in volume.phase) reopened.saved.copies
-  pub boundaries : volume.in_use.boundaries ≡ (shape_of volume).b
   pub long : volume.in_use.long ≡ (shape_of volume).b
-  pub live : live_of volume ≡ all_live (shape_of volume).b
-  pub cut : cut_of volume ≡ replicate (shape_of volume).n false
   pub label : volume.label ≡ Some reopened.label
   pub given : volume.given ≡ None
   pub recent : hot ≡ reopened.saved.recent
@@ -113,11 +109,11 @@ abbrev pub had : Option (List ℕ) → Option (List ℕ) → Option (List ℕ)
 had before None = None
 had before (Some now) = before
 
--- What was opened of a rack: its members were read as they stood before; nothing was written, the bytes beside the slots stay, and only
+-- What was opened of a rack, with this beside the saved state: its members were read as they stood before; nothing was written, the bytes beside the slots stay, and only
 -- members 0 to 31 were called; and this is the volume. `first` says what members did before blocks were read: one was good only where it
 -- may be. Of each list of blocks the volume is in a state that the model opens, the content of which is known where these held the blocks
 -- before. (Two members that were good at first may hold other blocks, and then no content is known.)
-pub record HasOpened {R : Type 0} (rack : Ghosts R) (before : R) (volume : Volume AnyPhase R) (hot : List ℕ) : Type 0 where
+pub record HasOpenedBeside {R : Type 0} (rack : Ghosts R) (reduced : Option Reduced) (before : R) (volume : Volume AnyPhase R) (hot : List ℕ) : Type 0 where
   pub well : IsWell any_phase rack volume
   pub given_is : given_of volume ≡ None
   pub stays : RackStays rack before (rack_of volume)
@@ -138,8 +134,12 @@ pub record HasOpened {R : Type 0} (rack : Ghosts R) (before : R) (volume : Volum
   pub falls : MembersFall (rack.counts before).faults (rack.counts (rack_of volume)).faults first (members_of volume)
   pub states_are : (V : List (List ℕ)) →
       let P : Type 0 = WasHeld rack (held (record { table = table_of volume; members = first; bytes = rack.bytes before; blocks = V })) in
-      (state : State) × (state.blocks ≡ V) × Opens (Known P rack volume) taken None (rack.counts before) state
+      (state : State) × (state.blocks ≡ V) × Opens (Known P rack volume) taken reduced (rack.counts before) state
       × StandsIn any_phase rack P volume state × (state.recent ≡ hot)
+
+-- where nothing stands beside it
+abbrev pub HasOpened : {R : Type 0} → Ghosts R → R → Volume AnyPhase R → List ℕ → Type 0
+HasOpened rack before volume hot = HasOpenedBeside rack None before volume hot
 
 -- by each answer
 abbrev pub AnswersOpen : {R : Type 0} → Ghosts R → R → OpenAnswer R → Type 0

@@ -57,6 +57,18 @@ impl InUse {
         None
     }
 
+    /// The place of a boundary that is in use.
+    pub(crate) fn place_of(&self, boundary: u8) -> u8
+        requires few { length self.now.live.items ≤ 16 }
+        requires there { place_in self.now.live.items boundary < length self.now.live.items }
+        ensures { result ≡ place_in self.now.live.items boundary }
+    {
+        match self.place(boundary as u32) {
+            Some(place) => place,
+            None => unreachable!(),
+        }
+    }
+
     /// The number of the boundary at a place, or 0 where there is none.
     pub(crate) fn number(&self, place: u8) -> u8
         ensures { result ≡ boundary_at self.now.live.items place }

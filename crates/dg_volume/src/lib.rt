@@ -8,6 +8,7 @@
 mod answers;
 mod any;
 mod audits;
+mod besides;
 mod commits;
 mod copies;
 mod cut_reads;
@@ -39,7 +40,7 @@ pub use dg_label::SaveAnswer;
 pub use dg_model::{NoMemory, Phase, Who};
 pub use dg_store::{Boundary, Shape};
 pub use disks::{DropDiskAnswer, MendDiskAnswer};
-pub use opens::{OpenAnswer, open};
+pub use opens::{OpenAnswer, open, open_kept};
 pub use phases::{AnyPhase, InPhase, Loose, Settled, Worn};
 pub use queries::WhoAnswer;
 pub use refills::{RebuildAnswer, ReplaceAnswer};

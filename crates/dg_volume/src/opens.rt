@@ -1,27 +1,30 @@
 // Opening a saved array.
-ghost use Rattle.std.specs.Prelude.{◌≡◌, ◌≢◌, ◌≤◌, AllPairs, IfOk, length};
+ghost use Rattle.std.specs.Prelude.{◌≡◌, ◌≢◌, ◌≤◌, AllPairs, IfOk, IfSome, length};
 ghost use Rattle.dg_model.specs.Homes.{Ascend};
 ghost use Rattle.dg_model.specs.Openings.{copies_after};
 ghost use Rattle.dg_model.specs.Saves.{CanBeSaved};
+ghost use Rattle.dg_regroup.specs.Extras.{IsExtra};
 ghost use Rattle.dg_save.specs.States.{state_of};
 ghost use Rattle.dg_store.specs.Stores.{IsSound, shape_of, table_of};
+ghost use Rattle.dg_volume.specs.Besides.{AnswersKept, AnswersOpenKept, FitsTable, IsReducedOr};
 ghost use Rattle.dg_volume.specs.Opens.{AnswersOpen, AnswersOrder, AnswersStill, IsMadeOf, IsPhaseOf};
 ghost use Rattle.dg_volume.specs.Phases.{phase_in, phase_with};
 ghost use Rattle.dg_volume.specs.Planned.{HasReadArray};
-ghost use Rattle.dg_volume.specs.Volumes.{FitsArray};
+ghost use Rattle.dg_volume.specs.Volumes.{FitsArray, reduced_of};
 
-use crate::in_use::InUse;
+use crate::besides::{can_open, in_use_of};
 use crate::phases::{AnyPhase, Loose, Settled, Worn};
 use crate::plans::{all_wants, checked};
 use crate::volumes::Volume;
 use dg_hot::Hot;
 use dg_infer::Inference;
-use dg_io::{NoMemory, Rack};
+use dg_io::{Checkpoint, NoMemory, Rack};
 use dg_model::Phase;
 use dg_open::{ReopenAnswer, Reopened, SavedState, reopen};
 use dg_placed::is_placed;
 use dg_plan::Homes;
 use dg_promise::blocks_have_one_owner;
+use dg_regroup::{Extra, read_extra};
 use dg_store::Store;
 use std::alloc::Global;
 use ufs_pointer::Levels;
@@ -49,30 +52,81 @@ pub fn open<R: Rack + Drop>(alloc: Global, rack: R) -> Result<OpenAnswer<R>, NoM
         ReopenAnswer::NoState(rack) => Ok(OpenAnswer::NoState(rack)),
         ReopenAnswer::Unclean(rack) => Ok(OpenAnswer::Unclean(rack)),
         ReopenAnswer::Found(reopened) => {
-            let (volume, hot) = volume_of(alloc, reopened)?;
+            let (volume, hot) = volume_of(alloc, reopened, None)?;
             Ok(OpenAnswer::Opened(volume, hot))
         }
     }
 }
 
-/// The volume of what was found, and the files that were read last.
+/// Opens the array that was saved on a rack, with the extra bytes that the rack keeps beside it. Nothing is written.
+///
+/// The bytes say which boundaries are in use, and which blocks were cut. Where there are none, all boundaries are in use, and no block was cut.
+/// Where they say nothing there is no state, and no call is made. Behind the opening by labels there is none either where what they say doesn't fit
+/// the array (it has as many boundaries as are in use, and each cut block is one of its own and has no site), or where the rack has less room than
+/// such an array may need.
+pub fn open_kept<R: Checkpoint + Drop>(
+    alloc: Global,
+    rack: R,
+    extra: &[u8],
+) -> Result<OpenAnswer<R>, NoMemory>
+    ensures { IfOk result (AnswersOpenKept R.Rack R.room_of rack extra.now) }
+{
+    if extra.is_empty() {
+        return open_with(alloc, rack, None);
+    }
+    match read_extra(alloc, extra)? {
+        Some(kept) => open_with(alloc, rack, Some(kept)),
+        None => Ok(OpenAnswer::NoState(rack)),
+    }
+}
+
+/// Opens the array that was saved on a rack, with what is kept beside it.
+fn open_with<R: Checkpoint + Drop>(
+    alloc: Global,
+    rack: R,
+    kept: Option<Extra>,
+) -> Result<OpenAnswer<R>, NoMemory>
+    requires { IfSome kept IsExtra }
+    ensures { IfOk result (AnswersKept R.Rack (R.room_of rack) kept rack) }
+{
+    blocks_have_one_owner();
+    let room = rack.room();
+    match reopen(alloc, rack)? {
+        ReopenAnswer::NoState(rack) => Ok(OpenAnswer::NoState(rack)),
+        ReopenAnswer::Unclean(rack) => Ok(OpenAnswer::Unclean(rack)),
+        ReopenAnswer::Found(reopened) => {
+            if !can_open(&reopened.store, room, &kept) {
+                let Reopened { store, .. } = reopened;
+                return Ok(OpenAnswer::NoState(store.into_rack()));
+            }
+            let (volume, hot) = volume_of(alloc, reopened, kept)?;
+            Ok(OpenAnswer::Opened(volume, hot))
+        }
+    }
+}
+
+/// The volume of what was found, with what is kept beside it, and the files that were read last.
 fn volume_of<R: Rack + Drop>(
     alloc: Global,
     reopened: Reopened<R>,
+    kept: Option<Extra>,
 ) -> Result<(Volume<AnyPhase, R>, Hot), NoMemory>
     requires sound { IsSound R.Rack reopened.store }
     requires form { CanBeSaved (state_of reopened.saved) }
     requires table { table_of reopened.store ≡ (state_of reopened.saved).table }
-    ensures { IfOk result (λ made. IsMadeOf R.Rack reopened made.0 made.1) }
+    requires extra { IfSome kept IsExtra }
+    requires fits { IfSome kept (FitsTable (table_of reopened.store)) }
+    ensures made { IfOk result (λ made. IsMadeOf R.Rack reopened made.0 made.1) }
+    ensures in_use { IfOk result (λ made. IsReducedOr (table_of reopened.store) kept (reduced_of made.0)) }
 {
     let Reopened {
         mut store,
         saved,
         label,
     } = reopened;
+    let in_use = in_use_of(alloc, &store, kept)?;
     let mut levels = Levels::new(alloc, store.shape().l)?;
     let phase = phase_on(alloc, &mut store, &mut levels, &saved)?;
-    let in_use = InUse::all(alloc, store.shape())?;
     let hot = hot_of(alloc, saved.recent.as_slice())?;
     let SavedState {
         pending,

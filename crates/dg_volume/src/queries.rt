@@ -1,5 +1,6 @@
 // What is told of a volume without a call on its rack.
 ghost use Rattle.std.specs.Prelude.{◌≡◌, ◌↔◌, ◌<◌, ◌≤◌, ◌/◌, ◌+◌, ℕ, IfNone, IfSome, false, true, length};
+ghost use Rattle.dg_model.specs.Lives.{place_in};
 ghost use Rattle.dg_model.specs.Marks.{is_marked};
 ghost use Rattle.dg_model.specs.Tables.{used_in};
 ghost use Rattle.dg_model.specs.declared.events.Event.{Event};
@@ -69,25 +70,26 @@ impl<S: InPhase, R: Rack> Volume<S, R> {
         }
     }
 
-    /// A boundary, by its place among those in use.
+    /// A boundary in use, by its number in the first line. Its own number is its place among those in use, and so its members are told.
     pub fn boundary(&self, boundary: u8) -> &Boundary
         requires well { IsWell S.InPhase R.Rack self.now }
-        requires boundary { boundary < (shape_of self.now).b }
+        requires in_use { place_in (live_of self.now) boundary < length (live_of self.now) }
         ensures well { IsWellBoundary result.now }
-        ensures number { number_of result.now ≡ boundary }
-        ensures members { (q : ℕ) → q / 2 ≡ boundary → boundary_members result.now q ≡ members_of self.now q }
-        ensures filled { (q have : ℕ) → q / 2 ≡ boundary → members_of self.now q ≡ MemberState.Filling have → have ≤ (shape_of self.now).k + 1 }
+        ensures number { number_of result.now ≡ place_in (live_of self.now) boundary }
+        ensures members { (q : ℕ) → q / 2 ≡ place_in (live_of self.now) boundary → boundary_members result.now q ≡ members_of self.now q }
+        ensures filled { (q have : ℕ) → q / 2 ≡ place_in (live_of self.now) boundary → members_of self.now q ≡ MemberState.Filling have
+            → have ≤ (shape_of self.now).k + 1 }
     {
-        self.store.boundary(boundary)
+        self.store.boundary(self.in_use.place_of(boundary))
     }
 
-    /// How many slots of a boundary are used, by its place.
+    /// How many slots of a boundary in use are used, by its number in the first line.
     pub fn used(&self, boundary: u8) -> u32
         requires well { IsWell S.InPhase R.Rack self.now }
-        requires boundary { boundary < (shape_of self.now).b }
-        ensures { result ≡ used_in (table_of self.now) boundary }
+        requires in_use { place_in (live_of self.now) boundary < length (live_of self.now) }
+        ensures { result ≡ used_in (table_of self.now) (place_in (live_of self.now) boundary) }
     {
-        self.store.map().used(boundary)
+        self.store.map().used(self.in_use.place_of(boundary))
     }
 
     /// The boundaries in use, ascending, by their numbers in the first line.
@@ -118,7 +120,7 @@ impl<S: InPhase, R: Rack> Volume<S, R> {
         self.store.shape()
     }
 
-    /// The lost boundaries: bit s for the one at place s.
+    /// The lost boundaries, by their places among those in use: bit s for the one at place s.
     pub fn lost(&self) -> u16
         requires { IsWell S.InPhase R.Rack self.now }
         ensures { result ≡ lost_bits (members_of self.now) (shape_of self.now).b }
