@@ -1,9 +1,10 @@
 -- How many blocks are written: a write of a block without a site that is done makes them one more.
-use Rattle.std.proofs.Common.{◌≡◌, ◌≢◌, ◌<◌, ◌+◌, ◌-◌, ◌++◌, ℕ, zero, suc, Bool, true, false, cond, List, [], ◌∷◌, length, take, refl, sym, ◌∙◌, ap, inl, inr, arith}
+use Rattle.std.proofs.Common.{◌≡◌, ◌≢◌, ◌<◌, ◌+◌, ◌-◌, ◌++◌, ℕ, zero, suc, Bool, false, cond, List, [], ◌∷◌, length, length-append, take, refl, sym, ◌∙◌, ap, inl, inr, arith}
 use Rattle.std.specs.Prelude.{slice_set}
 use Rattle.std.proofs.lemmas.Bool.{cases_eq, cases_lt}
 use Rattle.std.proofs.lemmas.List.{get_or-set_other, get_or-set_same, length-set, set_past}
 use Rattle.std.proofs.lemmas.List.Sums.{sum_by-set}
+use Rattle.dg_model.proofs.SpareSteps.{has_some}
 use Rattle.dg_model.specs.Sites.{Evicts, IsGivenFirst, has_site, without_last}
 use Rattle.dg_model.specs.States.{State}
 use Rattle.dg_model.specs.Steps.{Step}
@@ -82,10 +83,6 @@ evicts_same (suc count) old new h =
     same_both old (without_last old c) new (row_same old c (take (length (sites_in old c) - 1) (sites_in old c)) (keeps_one (sites_in old c) h.1.1.more))
     (evicts_same count (without_last old c) new h.1.2)
 
-has_last : (xs : List Site) (x : Site) → has_site (xs ++ x ∷ []) ≡ true
-has_last [] x = refl
-has_last (y ∷ ys) x = refl
-
 -- ---- writes
 
 -- what a write of block b leaves of the written blocks
@@ -100,7 +97,7 @@ given_counted old b new low none g =
     let sites = sites_in g.middle b ++ g.site ∷ [] in
     let below : b < length g.middle.rows = omega (arith, low, same.rows) in
     let sum = sum_by-set weight g.middle.rows b sites [] below in
-    let here : weight sites ≡ 1 = ap (λ (x : Bool). cond x 1 0) (has_last (sites_in g.middle b) g.site) in
+    let here : weight sites ≡ 1 = ap (λ (x : Bool). cond x 1 0) (has_some sites (omega (arith, length-append (sites_in g.middle b) (g.site ∷ [])))) in
     let was : weight (sites_in g.middle b) ≡ 0 = ap (λ (x : Bool). cond x 1 0) (same.sites b ∙ none) in
     let whole = ap written_count g.given in
     record {

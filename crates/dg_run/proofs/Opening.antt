@@ -1,6 +1,6 @@
 -- An array that was opened over a rack of all boundaries, and steps from it. All that is said is said of the rack below.
 use Rattle.std.proofs.Common.{◌≡◌, ◌⊎◌, ◌∙◌, ◌+◌, ◌*◌, ◌/◌, ◌%◌, ◌<◌, ◌≤◌, ℕ, true, List, [], ◌++◌, ap, arith, inl, inr, length, slice_index, refl, subst, sym}
-use Rattle.std.specs.Prelude.{Bool, IfSome, None, Option, Some, false}
+use Rattle.std.specs.Prelude.{IfSome, None, Option, Some, false}
 use Rattle.std.proofs.lemmas.Bool.{cases_order, false≢true}
 use Rattle.std.proofs.lemmas.List.Elements.{All-weaker}
 use Rattle.std.proofs.lemmas.List.FromFn.{get_or-range_with_len, length-range_with_len}
@@ -14,13 +14,11 @@ use Rattle.dg_io.specs.Told.{IsSame, Told, Took, TookPart}
 use Rattle.dg_io.specs.declared.outside.Rack.{Ghosts}
 use Rattle.dg_model.specs.Blocks.{block_in}
 use Rattle.dg_model.specs.Causes.{Rose}
-use Rattle.dg_model.specs.Changes.{IsInOrder}
 use Rattle.dg_model.specs.Lives.{all_live, member_at}
-use Rattle.dg_model.specs.Marks.{AreNext}
 use Rattle.dg_model.specs.Members.{HasFallen, MembersFall, SlotHolds, SlotOf, partner_of, is_filling, serves}
 use Rattle.dg_model.specs.Moments.{AreCountsOf, History, Moment}
 use Rattle.dg_model.specs.Moments.Kind.{plain}
-use Rattle.dg_model.specs.Openings.{Found, IsReopened, MayBeGood, Opens, Reduced}
+use Rattle.dg_model.specs.Openings.{Found, MayBeGood, Opens, Reduced}
 use Rattle.dg_model.specs.Saves.{Label, SavedState}
 use Rattle.dg_model.specs.declared.sites.Site.{Site}
 use Rattle.dg_model.specs.States.{Counts, CountsRise, StandsFor, State, is_broken}
@@ -47,7 +45,7 @@ use Rattle.dg_run.specs.Steps.{StandsIn, rack_of, shape_of}
 use Rattle.dg_run.specs.declared.arrays.Array.{Array}
 use Rattle.dg_run.specs.declared.top.Status.{Status}
 use Rattle.dg_run.specs.declared.top.Status.TheVariants.{NoState, Unclean, WriteFault}
-use Rattle.dg_saved.specs.OpeningLaws.{had_less}
+use Rattle.dg_saved.specs.OpeningLaws.{had_less, next_less, reopened_on}
 use Rattle.dg_saved.specs.Saved.{FoundNoState, FoundUnclean, HasLooked, HasSource, IsKnown, IsOpenedAs, OthersKept, TellsArray, had}
 use Rattle.dg_saved.specs.Texts.{nostate_text, unclean_text}
 use Rattle.dg_store.specs.Leaves.{IsCallBelow}
@@ -57,7 +55,6 @@ use Rattle.dg_volume.specs.Origins.{Origin, WasHeld}
 use Rattle.dg_volume.specs.Origins.Origin.{held as were_held}
 use Rattle.dg_volume.specs.Volumes.{any_phase}
 use Rattle.dg_volume.specs.Volumes as volumes
-use Rattle.ufs_model.specs.Blocks.{Volume as Blocks}
 
 -- ---- members by their own numbers
 
@@ -204,36 +201,6 @@ stands_by table members x y V same h = record {
   slot : (v : List ℕ) (n q : ℕ) → (members q ≡ Out) ⊎ (y q ≡ x q) → serves (members q) n ≡ true → SlotOf table.shape.l n v (x q) → SlotOf table.shape.l n v (y q)
   slot v n q (inl out) served holds = absurd (false≢true (sym (ap (λ (m : MemberState). serves m n) out) ∙ served))
   slot v n q (inr same) served holds = subst (λ (o : Option (List ℕ)). SlotOf table.shape.l n v o) (sym same) holds
-
--- What is said of an opened state where K holds is said of it where J does, whatever counts it has.
-module _ {K J : Type 0} (w : J → K) where
-  next_less : (broken : Bool) (l n : ℕ) (v : Blocks) (old new : List Bool) → AreNext broken K l n v old new → AreNext broken J l n v old new
-  next_less true l n v old new h = h
-  next_less false l n v old new h = record { size = h.size; fewer = h.fewer; are = λ j. h.are (w j) }
-
-  order_on : (state : State) (now : Counts) → IsInOrder K state → IsInOrder J (record state { counts = now })
-  order_on state now h = record {
-    wants = h.wants;
-    seen = record { fit = h.seen.fit; are = λ j. h.seen.are (w j) };
-    placed = h.placed;
-    sound = λ j. h.sound (w j);
-  }
-
-  order_back : (state : State) (now : Counts) → J → IsInOrder J (record state { counts = now }) → IsInOrder K state
-  order_back state now told h = record {
-    wants = h.wants;
-    seen = record { fit = h.seen.fit; are = λ k. h.seen.are told };
-    placed = h.placed;
-    sound = λ k. h.sound told;
-  }
-
-  reopened_on : (saved : SavedState) (state : State) (now : Counts) → IsReopened K saved state → IsReopened J saved (record state { counts = now })
-  reopened_on saved state now h = record {
-    worn = h.worn;
-    settled = λ e. ((h.settled e).0, order_on state now (h.settled e).1);
-    loose = λ e was told ordered. h.loose e was (w told) (order_back (record state { copies = saved.copies }) now told ordered);
-    copies = h.copies;
-  }
 
 module _ {R : Type 0} (rack : Ghosts R) (none : (s : R) → rack.made s [] s) (both : (a b c : R) (x y : List RackCall) → rack.made a x b → rack.made b y c → rack.made a (x ++ y) c)
     (law : (a b : R) (made : List RackCall) → rack.made a made b → After rack made a b) (start : LiveRack R) (all_in : live_in start ≡ all_live 16) (fresh : HasNoneAbsent start)

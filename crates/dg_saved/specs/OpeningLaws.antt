@@ -26,14 +26,14 @@ use Rattle.ufs_model.specs.Blocks.{Volume as Blocks}
 
 -- ---- a stronger premise
 
--- What is said of an opened state where K holds is said of it where J does.
+-- What is said of an opened state where K holds is said of it where J does, whatever counts it has.
 module _ {K J : Type 0} (w : J → K) where
-  next_less : (broken : Bool) (l n : ℕ) (v : Blocks) (old new : List Bool) → AreNext broken K l n v old new → AreNext broken J l n v old new
+  pub next_less : (broken : Bool) (l n : ℕ) (v : Blocks) (old new : List Bool) → AreNext broken K l n v old new → AreNext broken J l n v old new
   next_less true l n v old new h = h
   next_less false l n v old new h = record { size = h.size; fewer = h.fewer; are = λ j. h.are (w j) }
 
-  order_less : (state : State) → IsInOrder K state → IsInOrder J state
-  order_less state h = record {
+  order_on : (state : State) (now : Counts) → IsInOrder K state → IsInOrder J (record state { counts = now })
+  order_on state now h = record {
     wants = h.wants;
     seen = record { fit = h.seen.fit; are = λ j. h.seen.are (w j) };
     placed = h.placed;
@@ -41,23 +41,23 @@ module _ {K J : Type 0} (w : J → K) where
   }
 
   -- where both hold, each says as much
-  order_more : (state : State) → J → IsInOrder J state → IsInOrder K state
-  order_more state told h = record {
+  order_back : (state : State) (now : Counts) → J → IsInOrder J (record state { counts = now }) → IsInOrder K state
+  order_back state now told h = record {
     wants = h.wants;
     seen = record { fit = h.seen.fit; are = λ k. h.seen.are told };
     placed = h.placed;
     sound = λ k. h.sound told;
   }
 
-  reopened_less : (saved : SavedState) (state : State) → IsReopened K saved state → IsReopened J saved state
-  reopened_less saved state h = record {
+  pub reopened_on : (saved : SavedState) (state : State) (now : Counts) → IsReopened K saved state → IsReopened J saved (record state { counts = now })
+  reopened_on saved state now h = record {
     worn = h.worn;
-    settled = λ e. ((h.settled e).0, order_less state (h.settled e).1);
-    loose = λ e was told ordered. h.loose e was (w told) (order_more (record state { copies = saved.copies }) told ordered);
+    settled = λ e. ((h.settled e).0, order_on state now (h.settled e).1);
+    loose = λ e was told ordered. h.loose e was (w told) (order_back (record state { copies = saved.copies }) now told ordered);
     copies = h.copies;
   }
 
-  opens_less : (taken : ℕ → Option Found) (beside : Option Reduced) (before : Counts) (state : State) → Opens K taken beside before state
+  pub opens_less : (taken : ℕ → Option Found) (beside : Option Reduced) (before : Counts) (state : State) → Opens K taken beside before state
       → Opens J taken beside before state
   opens_less taken beside before state h = record {
     source = h.source;
@@ -77,7 +77,7 @@ module _ {K J : Type 0} (w : J → K) where
     out = h.out;
     fell = h.fell;
     pending = next_less (is_broken state) state.table.shape.l state.table.shape.n state.blocks h.saved.pending state.pending h.pending;
-    phase = reopened_less h.saved state h.phase;
+    phase = reopened_on h.saved state state.counts h.phase;
     label_is = h.label_is;
     body = h.body;
     counts = h.counts;

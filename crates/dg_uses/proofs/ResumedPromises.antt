@@ -20,10 +20,10 @@ use Rattle.dg_promise.specs.Steady.{FitsBlock, IsSteady}
 use Rattle.dg_run.specs.Calls.{Facts, met_by}
 use Rattle.dg_run.specs.Opened.{opened_moment}
 use Rattle.dg_run.specs.Resumes.{RanOn}
+use Rattle.dg_saved.specs.OpeningLaws.{opens_less}
 use Rattle.dg_saved.specs.Saved.{IsKnown, had}
 use Rattle.dg_text.specs.Lines.{IsInPlace}
 use Rattle.dg_uses.proofs.Promised.{all_fit, all_front}
-use Rattle.dg_uses.proofs.SavedAgain.{opens_told}
 use Rattle.dg_uses.specs.Answers.{TellsEach}
 use Rattle.dg_uses.specs.Promises.{resumed_from}
 
@@ -84,7 +84,7 @@ pub resumed_reads : OpensSteady → RunsKeep → (tells : ℕ → Type 0) (facts
 resumed_reads opens_steady keeps tells facts front rest path replies ran V size sizes images bytes known =
     let resumed = (ran.runs V size).resumed in
     let state = resumed.state in
-    let opens : Opens AreTold ran.source.taken None facts.before state = opens_told known ran.source.taken None facts.before state resumed.is.opens in
+    let opens : Opens AreTold ran.source.taken None facts.before state = opens_less (λ _. known) ran.source.taken None facts.before state resumed.is.opens in
     let can = of_taken (λ q. had (facts.images q) (facts.bytes q)) facts.before.faults ran.opened.faults ran.source.taken opens.source
     (record { label = opens.label; state = Some opens.saved }) opens.saved (λ q. had_told (facts.images q) (facts.bytes q) (images q) (bytes q)) ran.source.read
     opens.is_source.newest.there refl in

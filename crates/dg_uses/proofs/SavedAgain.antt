@@ -1,9 +1,8 @@
 -- What is taken of members that a save was left on, and an array that goes on from them.
-use Rattle.std.proofs.Common.{◌≡◌, ◌∙◌, ◌++◌, ◌<◌, ℕ, List, [], ◌∷◌, inl, inr, Bool, true, false, arith, refl, sym, ap, subst}
+use Rattle.std.proofs.Common.{◌≡◌, ◌∙◌, ◌++◌, ◌<◌, ℕ, List, [], ◌∷◌, inl, inr, true, false, arith, refl, sym, ap, subst}
 use Rattle.std.specs.Prelude.{All, Option, Some, None, IfSome, IsSome}
 use Rattle.std.proofs.lemmas.Bool.{false≢true}
 use Rattle.std.proofs.lemmas.List.Elements.{All-head, All-tail}
-use Rattle.ufs_model.specs.Blocks.{Volume}
 use Rattle.dg_io.specs.Told.{IsSame, Told}
 use Rattle.dg_kept.specs.Opened.{AreTold}
 use Rattle.dg_kept.specs.Saved.{Save}
@@ -12,14 +11,13 @@ use Rattle.dg_kept.specs.Taken.{AreTaken, IsBodyTaken, IsSpared, IsTaken}
 use Rattle.dg_model.proofs.KnownLaws.{step_less}
 use Rattle.dg_model.proofs.StepLaws.{StaysInUse, step_keeps}
 use Rattle.dg_model.specs.Causes.{NoneRose, Rose}
-use Rattle.dg_model.specs.Changes.{IsInOrder, Stays}
-use Rattle.dg_model.specs.Marks.{AreNext}
+use Rattle.dg_model.specs.Changes.{Stays}
 use Rattle.dg_model.specs.Moments.{AreCountsOf, History}
 use Rattle.dg_model.specs.Moments.Kind.{plain}
-use Rattle.dg_model.specs.Openings.{Found, IsReopened, Opens, Reduced}
+use Rattle.dg_model.specs.Openings.{Found, Opens}
 use Rattle.dg_model.specs.Runs.{Run}
 use Rattle.dg_model.specs.Saves.{Label, SavedState}
-use Rattle.dg_model.specs.States.{Counts, State, gone_in, is_broken}
+use Rattle.dg_model.specs.States.{Counts, State, gone_in}
 use Rattle.dg_model.specs.Steps.{Step}
 use Rattle.dg_model.specs.declared.events.Event.{Event}
 use Rattle.dg_model.specs.declared.events.Event.TheVariants.{Audit, Cat, Home, LostFiles, Ls, Pending, Read, Regroup, Tree, Who}
@@ -30,6 +28,7 @@ use Rattle.dg_open.specs.Founds.{AreRead, IsBodyRead, IsPassed, IsRead}
 use Rattle.dg_run.specs.Calls.{Facts as CallFacts, met_by}
 use Rattle.dg_run.specs.Opened.{Reached, opened_moment}
 use Rattle.dg_saved.specs.Calls.{Facts}
+use Rattle.dg_saved.specs.OpeningLaws.{opens_less}
 use Rattle.dg_saved.specs.Saved.{HasLooked, HasSource, IsKnown, IsOpenedAs, RunsFrom, had}
 use Rattle.dg_uses.proofs.QuietRuns.{history_less}
 use Rattle.dg_uses.specs.Answers.{TellsEach}
@@ -99,52 +98,6 @@ looked_taken facts looked tells none =
 
 -- ---- an opening whose bytes are told
 
-order_less : {K J : Type 0} → (J → K) → (state : State) → IsInOrder K state → IsInOrder J state
-order_less w state h = record {
-  wants = h.wants;
-  seen = record { fit = h.seen.fit; are = λ j. h.seen.are (w j) };
-  placed = h.placed;
-  sound = λ j. h.sound (w j);
-}
-
-next_told : {K : Type 0} → K → (broken : Bool) (l n : ℕ) (v : Volume) (old new : List Bool) → AreNext broken K l n v old new → AreNext broken AreTold l n v old new
-next_told known true l n v old new h = h
-next_told known false l n v old new h = record { size = h.size; fewer = h.fewer; are = λ _. h.are known }
-
-reopened_told : {K : Type 0} → K → (saved : SavedState) (state : State) → IsReopened K saved state → IsReopened AreTold saved state
-reopened_told known saved state h = record {
-  worn = h.worn;
-  settled = λ is. let was = h.settled is in (was.0, order_less (λ _. known) state was.1);
-  loose = λ is was told order. h.loose is was known (order_less (λ _. tt) (record state { copies = saved.copies }) order);
-  copies = h.copies;
-}
-
-pub opens_told : {K : Type 0} → K → (taken : ℕ → Option Found) (beside : Option Reduced) (before : Counts) (state : State) → Opens K taken beside before state
-    → Opens AreTold taken beside before state
-opens_told known taken beside before state h = record {
-  source = h.source;
-  label = h.label;
-  saved = h.saved;
-  is_source = h.is_source;
-  reduced = h.reduced;
-  reduced_is = h.reduced_is;
-  fits = h.fits;
-  boundaries = h.boundaries;
-  live = h.live;
-  cut = h.cut;
-  table = h.table;
-  homes = h.homes;
-  recent = h.recent;
-  good = h.good;
-  out = h.out;
-  fell = h.fell;
-  pending = next_told known (is_broken state) state.table.shape.l state.table.shape.n state.blocks h.saved.pending state.pending h.pending;
-  phase = reopened_told known h.saved state h.phase;
-  label_is = h.label_is;
-  body = h.body;
-  counts = h.counts;
-}
-
 -- An array that was opened with the blocks of a save has those of the old state.
 module _ (tells : ℕ → Type 0) (facts : Facts) (opened : Counts) (source : HasSource facts opened) (old : State) (save : Save) where
   pub opened_again : (state : State) → IsOpenedAs tells facts opened source save.blocks state → IsKnown tells facts opened source save.blocks → save.blocks ≡ old.blocks
@@ -152,7 +105,7 @@ module _ (tells : ℕ → Type 0) (facts : Facts) (opened : Counts) (source : Ha
       → ((s : State) → Opens AreTold source.taken None facts.before s → NoneRose facts.before.faults s.counts.faults → IsResumed old save facts.images s)
       → IsOpenedAgain old save facts.images facts.before state
   opened_again state is known same taken none resume =
-      let opens = opens_told known source.taken None facts.before state is.opens in
+      let opens : Opens AreTold source.taken None facts.before state = opens_less (λ _. known) source.taken None facts.before state is.opens in
       let quiet : NoneRose facts.before.faults state.counts.faults = subst (λ (c : Counts). NoneRose facts.before.faults c.faults) (sym is.counts) none in
       record {
         opened = record { taken = source.taken; are = taken; opens = opens; none = quiet };

@@ -41,3 +41,9 @@ Answers (Ok image) answer = answer ≡ Ok image.items
 Answers (Err (TooMany what)) answer = answer ≡ Err (TooMany what)
 Answers (Err (BadItem k)) answer = answer ≡ Err (BadItem k)
 Answers (Err NoMemory) answer = Unit {0}
+
+-- Memory is taken for an image, and to tell that it would take too many fragments. Want of memory hides no other refusal.
+abbrev pub TakesMemory : Result (List ℕ) BuildRefused → Type 0
+TakesMemory (Ok image) = Unit {0}
+TakesMemory (Err (TooMany Fragments)) = Unit {0}
+TakesMemory (Err refusal) = ⊥

@@ -7,6 +7,8 @@ use Rattle.ufs_model.specs.Paths.{is_path}
 use Rattle.ufs_build.specs.declared.items.Item.{Item}
 use Rattle.ufs_build.specs.declared.items.ItemKind.{ItemKind}
 use Rattle.ufs_build.specs.declared.items.ItemKind.TheVariants.{Dir, File, Link}
+use Rattle.ufs_build.specs.declared.refusals.BuildRefused.{BuildRefused}
+use Rattle.ufs_build.specs.declared.refusals.BuildRefused.TheVariants.{BadItem, NoMemory}
 
 abbrev pub is_slash : ℕ → Bool
 is_slash b = b == 47
@@ -90,6 +92,11 @@ parents_after before (item ∷ items) = if_placed (length before) (parent_inode 
 
 unfoldable pub parents_of : List Item → Result (List ℕ) ℕ
 parents_of items = parents_after [] items
+
+-- what is told of items where memory is wanting for these inodes: the first item that can't stand where its path says, or else the want
+abbrev pub without_memory : Result (List ℕ) ℕ → BuildRefused
+without_memory (Ok inodes) = NoMemory
+without_memory (Err k) = BadItem k
 
 -- the name has at most 255 bytes (`MAXNAMLEN`)
 abbrev pub HasShortName : Item → Type 0

@@ -1,10 +1,11 @@
 // Volumes of items.
-ghost use Rattle.std.specs.Prelude.{◌≡◌, ◌+◌, ◌*◌, ◌<◌, ◌≤◌, ◌^◌, nat_le, IfOk, length};
+ghost use Rattle.std.specs.Prelude.{◌≡◌, ◌+◌, ◌*◌, ◌<◌, ◌≤◌, ◌^◌, nat_le, Err, IfOk, length};
 ghost use Rattle.std.specs.List.{All};
-ghost use Rattle.ufs_build.specs.Builds.{Answers, built, volume_nodes, with_parents, with_placed};
+ghost use Rattle.ufs_build.specs.Builds.{Answers, TakesMemory, built, volume_nodes, with_parents, with_placed};
 ghost use Rattle.ufs_build.specs.Items.{HasShortName, HasSlash, parents_of};
 ghost use Rattle.ufs_build.specs.Placements.{placed_files};
 ghost use Rattle.ufs_build.specs.Placings.{files_of};
+ghost use Rattle.ufs_build.specs.declared.refusals.BuildRefused.{BuildRefused};
 ghost use Rattle.ufs_model.specs.Geometries.{IsGeometry};
 
 use crate::directories::directories_of;
@@ -75,7 +76,8 @@ fn volume_of_items(
 fn volume_of(alloc: Global, g: &Geometry, items: &[Item]) -> Result<Vec<u8>, BuildRefused>
     requires geometry { IsGeometry g.now }
     requires few { length items.now + 3 ≤ g.now.ncg * g.now.ipg }
-    ensures { Answers result (with_parents g.now items.now (parents_of items.now)) }
+    ensures answer { Answers result (with_parents g.now items.now (parents_of items.now)) }
+    ensures memory { result ≡ Err BuildRefused.NoMemory → TakesMemory (with_parents g.now items.now (parents_of items.now)) }
 {
     match parents_of(alloc, items) {
         Ok(parents) => volume_of_items(alloc, g, items, &parents),
@@ -85,10 +87,12 @@ fn volume_of(alloc: Global, g: &Geometry, items: &[Item]) -> Result<Vec<u8>, Bui
 
 /// The bytes of a volume with these items.
 ///
-/// Item k, counted from 0, has inode k + 3. Refusals are told in the order of [`BuildRefused`].
+/// Item k, counted from 0, has inode k + 3. Refusals are told in the order of [`BuildRefused`], and
+/// all but that of fragments also where memory is wanting.
 #[tactic(auto, unfolding(crate::specs::Builds::built))]
 pub fn build(alloc: Global, spec: &Spec, files: &Items) -> Result<Vec<u8>, BuildRefused>
-    ensures { Answers result (built spec.now files.now) }
+    ensures answer { Answers result (built spec.now files.now) }
+    ensures memory { result ≡ Err BuildRefused.NoMemory → TakesMemory (built spec.now files.now) }
 {
     let Some(g) = volume_of_spec(spec) else {
         return Err(BuildRefused::TooMany(What::Spec));

@@ -1,13 +1,13 @@
 // The directories of items.
 ghost use Rattle.std.specs.Prelude.{◌≡◌, ◌+◌, ◌<◌, ◌≤◌, ◌^◌, ◌==◌, ◌++◌, ◌∷◌, [], ℕ, MatchOption, IfSome};
-ghost use Rattle.std.specs.Prelude.{IfOk, OnOk, MatchResult, Some, None, Ok, Err, length, slice_get, take, drop};
+ghost use Rattle.std.specs.Prelude.{IfOk, IsOk, OnOk, MatchResult, Some, None, Ok, Err, length, slice_get, take, drop};
 ghost use Rattle.std.specs.List.{All};
 ghost use Rattle.std.specs.Bool.{OnTrue};
 ghost use Rattle.std.specs.Cmp.Lexicographic.{pointwise};
 ghost use Rattle.ufs_build.specs.Items.{HasShortName, HasSlash, directory_at, has_contents, is_dir};
-ghost use Rattle.ufs_build.specs.Items.{name_of, parent_inode, parent_of, parents_of, place_of_path};
+ghost use Rattle.ufs_build.specs.Items.{name_of, parent_inode, parent_of, parents_after, parents_of, place_of_path, without_memory};
 ghost use Rattle.ufs_build.specs.declared.items.Item.{Item};
-ghost use Rattle.ufs_build.specs.declared.refusals.BuildRefused.TheVariants.{BadItem, TooMany};
+ghost use Rattle.ufs_build.specs.declared.refusals.BuildRefused.TheVariants.{BadItem, NoMemory, TooMany};
 ghost use Rattle.ufs_build.specs.declared.refusals.What.{What};
 
 use crate::items::{Item, ItemKind};
@@ -84,13 +84,29 @@ fn parent_inode(before: &[Item], item: &Item) -> Option<u32>
     directory_at(before, parent)
 }
 
+/// Why items have no inodes of directories where memory is wanting at a place. The first item from
+/// there on that can't stand where its path says is refused all the same.
+fn without_memory(items: &[Item], from: usize) -> BuildRefused
+    requires { length items.now + 3 < 2 ^ 32 }
+    ensures { result ≡ without_memory (parents_after (take from items.now) (drop from items.now)) }
+{
+    for k in from..items.len() {
+        let (before, rest) = items.split_at(k);
+        if parent_inode(before, &rest[0]).is_none() {
+            return BuildRefused::BadItem(k as u32);
+        }
+    }
+    BuildRefused::NoMemory
+}
+
 /// The inodes of the items' directories. The first item that can't stand where its path says is
-/// refused.
+/// refused, also where memory is wanting for those before it.
 #[tactic(auto, unfolding(crate::specs::Items::parents_of))]
 pub fn parents_of(alloc: Global, items: &[Item]) -> Result<Vec<u32>, BuildRefused>
     requires { length items.now + 3 < 2 ^ 32 }
     ensures found { IfOk result (λ parents. parents_of items.now ≡ Ok parents.items) }
     ensures bad { (k : ℕ) → result ≡ Err (BadItem k) → parents_of items.now ≡ Err k }
+    ensures memory { result ≡ Err NoMemory → IsOk (parents_of items.now) }
     ensures many { (what : What) → result ≡ Err (TooMany what) → ⊥ }
     ensures names { OnOk result (All HasShortName items.now) }
     ensures slashes { OnOk result (All HasSlash items.now) }
@@ -102,7 +118,7 @@ pub fn parents_of(alloc: Global, items: &[Item]) -> Result<Vec<u32>, BuildRefuse
             return Err(BuildRefused::BadItem(k as u32));
         };
         if parents.push(parent).is_err() {
-            return Err(BuildRefused::NoMemory);
+            return Err(without_memory(items, k + 1));
         }
     }
     Ok(parents)

@@ -19,7 +19,7 @@ returns-in-Ok-clause-bytes c =
     let found : volume_of_spec drill_spec ≡ Some c.in-Some.geometry = ap volume_of_spec (sym c.drill_spec-spec.ensures) ∙ sym c.volume_of_spec.ensures.value ∙ c.in-Some.is in
     let made : built drill_spec (drill_items c.args.seed c.args.files) ≡ Ok c.in-Ok.image.items =
     ap (λ (s : Spec). built s (drill_items c.args.seed c.args.files)) (sym c.drill_spec-spec.ensures)
-    ∙ ap (λ (l : List Item). built c.drill_spec-spec.result l) (sym c.in_ok-items.ensures) ∙ c.in-Ok.ensures in
+    ∙ ap (λ (l : List Item). built c.drill_spec-spec.result l) (sym c.in_ok-items.ensures) ∙ c.in-Ok.ensures.answer in
     built_length drill_spec (drill_items c.args.seed c.args.files) c.in-Some.geometry c.in-Ok.image.items found made
 
 pub returns-in-Ok-clause-fits : goal.returns-in-Ok-clause-fits
