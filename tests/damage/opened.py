@@ -160,9 +160,8 @@ def array_of(state, label, members, images):
     return array
 
 
-def opened(folder):
-    """What an opening of the images in a folder gives: `nostate`, `unclean`, or the array."""
-    found = {member: read_label(folder, member) for member in range(32)}
+def opened_from(found):
+    """What an opening of members gives: `nostate`, `unclean`, or the array. Each of `found` has its own label, or None, and its image."""
     labels = {member: label for member, (label, _) in found.items() if label and member // 2 < label.shape[2]}
     newest = max((label.sequence for label in labels.values()), default=None)
     counted = {member: label for member, label in labels.items() if label.sequence == newest}
@@ -174,3 +173,8 @@ def opened(folder):
             good = [other in counted and counted[other].key == label.key and state.good[other] for other in range(2 * label.shape[2])]
             return array_of(state, label, good, {other: image for other, (_, image) in found.items()})
     return "nostate"
+
+
+def opened(folder):
+    """What an opening of the images in a folder gives."""
+    return opened_from({member: read_label(folder, member) for member in range(32)})
