@@ -28,6 +28,22 @@ def bring_back(rng, disks, older):
     return f"members {sorted(back)} are as before an earlier run"
 
 
+def bring_other_save(rng, disks, older):
+    """Some members have another save of the number that is the newest now: the array went on twice from one state."""
+    newest = max((disk.save.number for disk in disks.values() if disk.save), default=0)
+    of_now = {id(disk.save) for disk in disks.values()}
+    others = [
+        {member: disk for member, disk in old.items() if disk.save and disk.save.number == newest and id(disk.save) not in of_now} for old in older
+    ]
+    others = [other for other in others if other]
+    if not others:
+        return bring_back(rng, disks, older)
+    other = rng.choice(others)
+    back = rng.sample(sorted(other), rng.randrange(1, len(other) + 1))
+    disks.update({member: other[member] for member in back})
+    return f"members {sorted(back)} have another save of the same number"
+
+
 def exchange(rng, disks, older):
     """Two places have each other's image, or both have that of one."""
     one, other = rng.choice(sorted(disks)), rng.choice([rng.choice(sorted(disks)), rng.randrange(32)])
@@ -43,15 +59,23 @@ def put(disks, member, image):
     disks[member] = Disk(bytes(image), disks[member].save, True)
 
 
+def span_of(where, label, length):
+    """From where to where a part of an image stands; of one without a label, all is its slots."""
+    if where == "label":
+        return 0, min(48, length)
+    if label is None:
+        return min(PAGE, length), length
+    return (PAGE, label.place) if where == "slots" else (label.place, label.place + label.body_length)
+
+
 def damage_place(rng, disks, older):
-    """Random bytes in the label, in the slots or in the body of one member, or alike of several."""
-    members = sorted(disks) if rng.random() < 0.2 else [rng.choice(sorted(disks))]
-    where, count, share = rng.choice(["label", "slots", "slots", "body"]), rng.choice([1, 4, 64, 600]), rng.random()
+    """Random bytes in the label, in the slots or in the body of one member, often the first, or alike of several."""
+    members = sorted(disks) if rng.random() < 0.2 else [rng.choice([min(disks), *disks])]
+    where, count, share = rng.choice(["label", "slots", "slots", "body", "body"]), rng.choice([1, 4, 64, 600]), rng.random()
     noise, told = rng.randbytes(count), []
     for member in members:
         image, label = bytearray(disks[member].image), label_of(member, disks[member].image)
-        first, end = {"label": (0, 48), "slots": (PAGE, label.place if label else len(image)), "body": (label.place if label else 0, len(image))}[where]
-        end = min(end, len(image))
+        first, end = span_of(where, label, len(image))
         if first < end:
             at = first + int(share * (end - first))
             image[at:at + count] = noise[:end - at]
@@ -71,7 +95,7 @@ def change_length(rng, disks, older):
 def change_by_format(rng, disks, older):
     """A change that knows the format: another number, seal, mark or site, an older body, and the like (tests/damage/changes.py)."""
     old = rng.choice(older)
-    images = Images({m: bytearray(disk.image) for m, disk in disks.items()}, {m: disk.image for m, disk in old.items()})
+    images = Images({m: bytearray(disk.image) for m, disk in disks.items()}, {m: disk.image for m, disk in old.items() if label_of(m, disk.image)})
     told = change(rng, images)
     for member in set(disks) - set(images.now):
         disks.pop(member)
@@ -81,7 +105,10 @@ def change_by_format(rng, disks, older):
     return told
 
 
-CHANGES = (take_away, take_away, take_away, bring_back, bring_back, exchange, damage_place, damage_place, change_length, change_by_format)
+CHANGES = (
+    take_away, take_away, take_away, bring_back, bring_other_save, bring_other_save, bring_other_save, exchange, damage_place, damage_place, change_length,
+    change_by_format,
+)
 
 
 def change_some(rng, disks, older):

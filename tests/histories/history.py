@@ -4,6 +4,7 @@ import os
 import random
 import re
 import sys
+import tempfile
 
 HERE = os.path.dirname(os.path.abspath(__file__))
 sys.path.append(os.path.join(HERE, "..", "soak"))
@@ -16,11 +17,18 @@ from model import GOOD, Array  # noqa: E402
 from replies import REFUSED, Play, answer_to, check_failed_answer, check_tail  # noqa: E402
 from saved import image_name, is_good  # noqa: E402
 
-MEMBERS = 32
+# Where files cost no disk, on most machines.
+MEMORY = "/dev/shm"
 # A save of a greater number has no next one in the end, which is told as want of memory.
 LAST_SAVES = 1 << 62
 NO_ARRAY = re.compile(rb"(no image in this folder|\d+ images?, none with a (label|label of its own|whole state behind its label))\n")
 TOLD_OF_FAILURES = re.compile(rb"(member-\d\d-\d\.img: [a-z]+: Input/output error\n|\d+ images?[^\n]*\n|no image in this folder\n)*")
+
+
+def new_folder():
+    """A folder in memory, where the machine has one: a save flushes its images."""
+    is_there = "TMPDIR" not in os.environ and os.access(MEMORY, os.W_OK)
+    return tempfile.TemporaryDirectory(dir=MEMORY if is_there else None)
 
 
 class Folder:
@@ -85,6 +93,8 @@ class History:
             self.remember()
             self.change()
             self.further_run()
+            if not self.openable:
+                break
 
     # what happens between two runs
 
@@ -95,10 +105,10 @@ class History:
 
     def change(self):
         is_open = self.openable and self.openable[-1] == self.disks
-        if not is_open and self.openable and self.rng.random() < 0.8:
+        if self.openable and self.rng.random() < (0.15 if is_open else 0.85):
             self.disks = dict(self.rng.choice(self.openable))
             self.tell(["all members are as before an earlier run"])
-        if self.rng.random() < 0.75:
+        if self.rng.random() < 0.7:
             self.tell(between.change_some(self.rng, self.disks, self.older))
 
     def tell(self, changes):
@@ -130,7 +140,7 @@ class History:
         """How a trace is stopped, and the events that are answered before."""
         rng, calls = self.rng, 3 * len(self.disks) + 8
         saves = [event for event, line in enumerate(play.lines) if line == "save" or event and play.lines[event - 1] == "save"]
-        front = rng.choice(saves) if saves and rng.random() < 0.6 else rng.randrange(len(play.lines) + 1)
+        front = rng.choice(saves) if saves and rng.random() < 0.65 else rng.randrange(len(play.lines) + 1)
         is_save = front in saves
         call = rng.randrange(1, 2 * calls if is_save else calls) if is_save or front == 0 else rng.choice([1, 1, 1, 2, 2, 3, 4, rng.randrange(1, calls)])
         return stops.Stop(rng.choice(["fail", "fail", "kill", "kill", "tear"]), len(play.output(front)), call), front
@@ -139,7 +149,7 @@ class History:
         """A trace on an array, which is a blank one of a replay or was opened; what it leaves is judged."""
         good = {m for m in range(2 * array.b) if array.members[m // 2][m % 2] == GOOD}
         play = Play(array, lines)
-        stop, front = self.pick_stop(play) if self.rng.random() < 0.4 else (None, 0)
+        stop, front = self.pick_stop(play) if self.rng.random() < (0.25 if words == ["replay"] else 0.45) else (None, 0)
         run = Run(words, lines, stop)
         self.do(run, front)
         self.see_told(run)

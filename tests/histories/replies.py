@@ -15,7 +15,7 @@ MORE = {"cat": r"bytes [0-9a-f]+", "ls": r"entry .+", "tree": r"node .+", "pendi
 READ = r"unavailable|notfound|notdir|notregular|bad [a-z]+|not settled|cut 0"
 # The last line of a reply to an event that is begun when all calls on images fail.
 FAILED = {
-    "write": r"degraded|range", "read": r"unavailable|range|data -", "fail": r"ok|already|range", "replace": r"failed|not out|lost \d+|range",
+    "array": "ok", "write": r"degraded|range", "read": r"unavailable|range|data -", "fail": r"ok|already|range", "replace": r"failed|not out|lost \d+|range",
     "rebuild": r"failed|lost \d+|not filling|range|copied 0 \d+", "settle": r"settled|lost \d+|malformed [a-z]+ \d+|nospace .+",
     "tend": r"tended 0 \d+|lost \d+|nospace .+", "diffuse": r"diffused 0|not settled|lost \d+", "who": r".+", "pending": r"end \d+", "cat": READ,
     "ls": READ, "tree": READ, "home": READ, "lostfiles": READ, "save": r"lost \d+|not saved", "regroup": r"whole|too few|regrouped \d+ \d+",

@@ -11,24 +11,17 @@ import argparse
 import collections
 import os
 import shutil
+import subprocess
 import sys
-import tempfile
 import time
 
 HERE = os.path.dirname(os.path.abspath(__file__))
 sys.dont_write_bytecode = True
 sys.path.insert(0, HERE)
-from history import Folder, History  # noqa: E402
+from history import Folder, History, new_folder  # noqa: E402
 from ledger import Difference  # noqa: E402
 
-MEMORY = "/dev/shm"
 NUMBERS = ("runs", "stops", "changes", "opened", "unclean", "nostate", "as saved", "mixed", "spoiled", "unsure")
-
-
-def new_folder():
-    """A folder in memory, where the machine has one: a save flushes its images."""
-    is_there = "TMPDIR" not in os.environ and os.access(MEMORY, os.W_OK)
-    return tempfile.TemporaryDirectory(dir=MEMORY if is_there else None)
 
 
 def words():
@@ -47,7 +40,7 @@ def play(program, seed, number, folder):
     one = History(program, f"{seed} {number}", folder)
     try:
         one.go()
-    except Difference as difference:
+    except (Difference, subprocess.TimeoutExpired) as difference:
         return one, difference
     return one, None
 

@@ -16,7 +16,7 @@ import tempfile
 
 HERE = os.path.dirname(os.path.abspath(__file__))
 sys.path.append(os.path.join(HERE, "..", "adapters"))
-from calls import COUNT, FILE, NUMBER, TRACEME, SETOPTIONS, SYSCALL, WRITE_AT, READ_AT, late, trace_call  # noqa: E402
+from calls import COUNT, FILE, NUMBER, PEEKUSER, POKEUSER, READ_AT, SETOPTIONS, SYSCALL, TRACEME, WRITE_AT, trace_call  # noqa: E402
 
 SECONDS = 60
 PAGE = 512
@@ -34,6 +34,10 @@ ALLOWED, TRACED = 0x7FFF0000, 0x7FF00000
 Stop = collections.namedtuple("Stop", "how behind call")
 # output, status (None where it was killed), what it told, and how much was printed when it was stopped (None where it wasn't)
 Ended = collections.namedtuple("Ended", "output status told stopped")
+
+
+def late(*_):
+    raise subprocess.TimeoutExpired("the program", SECONDS)
 
 
 @functools.cache
@@ -88,10 +92,10 @@ class Traced:
             given = os.WSTOPSIG(status) if os.WSTOPSIG(status) != signal.SIGTRAP else 0
 
     def get(self, place):
-        return trace_call(3, self.pid, place)
+        return trace_call(PEEKUSER, self.pid, place)
 
     def put(self, place, value):
-        trace_call(6, self.pid, place, value & (1 << 64) - 1)
+        trace_call(POKEUSER, self.pid, place, value & (1 << 64) - 1)
 
     def is_on_image(self):
         """Whether the call at which it stands is on an image."""
