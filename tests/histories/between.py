@@ -28,16 +28,16 @@ def bring_back(rng, disks, older):
     return f"members {sorted(back)} are as before an earlier run"
 
 
-def bring_other_save(rng, disks, older):
-    """Some members have another save of the number that is the newest now: the array went on twice from one state."""
+def other_saves(disks, older):
+    """Members that have another save of the number that is the newest now: the array went on twice from one state."""
     newest = max((disk.save.number for disk in disks.values() if disk.save), default=0)
     of_now = {id(disk.save) for disk in disks.values()}
-    others = [
-        {member: disk for member, disk in old.items() if disk.save and disk.save.number == newest and id(disk.save) not in of_now} for old in older
-    ]
-    others = [other for other in others if other]
-    if not others:
-        return bring_back(rng, disks, older)
+    found = [{member: disk for member, disk in old.items() if disk.save and disk.save.number == newest and id(disk.save) not in of_now} for old in older]
+    return [other for other in found if other]
+
+
+def mix_saves(rng, disks, others):
+    """Some members come from the other one of two saves of one number."""
     other = rng.choice(others)
     back = rng.sample(sorted(other), rng.randrange(1, len(other) + 1))
     disks.update({member: other[member] for member in back})
@@ -106,15 +106,15 @@ def change_by_format(rng, disks, older):
 
 
 CHANGES = (
-    take_away, take_away, take_away, bring_back, bring_other_save, bring_other_save, bring_other_save, exchange, damage_place, damage_place, change_length,
-    change_by_format,
+    take_away, take_away, take_away, bring_back, bring_back, exchange, damage_place, damage_place, change_length, change_by_format,
 )
 
 
 def change_some(rng, disks, older):
     """Changes the disks, by member, in some ways. `older` are those before each run, the first of which has some."""
-    told = []
-    for _ in range(rng.choice([0, 1, 1, 1, 1, 2, 2, 3])):
+    others = other_saves(disks, older)
+    told = [mix_saves(rng, disks, others)] if others and rng.random() < 0.5 else []
+    for _ in range(rng.choice([0, 0, 1, 2] if told else [0, 1, 1, 1, 1, 2, 2, 3])):
         if disks:
             told.append(rng.choice(CHANGES)(rng, disks, older))
     return told

@@ -1,4 +1,7 @@
-"""One history: a replay, and then further runs on its images, between which these are changed. Each run is judged by the bytes that it finds, and by what was written."""
+"""One history: a replay, and then further runs on its images, between which these are changed.
+
+Each run is judged by the bytes that it finds, and by what was written before.
+"""
 import collections
 import os
 import random
@@ -99,13 +102,16 @@ class History:
     # what happens between two runs
 
     def remember(self):
+        """What the run before left, before it is changed by hand: it can be opened just as it was saved, if it can."""
         self.older.append(dict(self.disks))
-        if not isinstance(opening.judge(self.images()), str):
+        answer = opening.judge(self.images())
+        if not isinstance(answer, str):
+            self.ledger.check_opened(answer, self.disks)
             self.openable.append(dict(self.disks))
 
     def change(self):
         is_open = self.openable and self.openable[-1] == self.disks
-        if self.openable and self.rng.random() < (0.15 if is_open else 0.85):
+        if self.openable and self.rng.random() < (0.3 if is_open else 0.85):
             self.disks = dict(self.rng.choice(self.openable))
             self.tell(["all members are as before an earlier run"])
         if self.rng.random() < 0.7:
@@ -132,17 +138,18 @@ class History:
         if run.ended.stopped is None:
             run.stop = None
         self.counts["stops"] += run.stop is not None
-        if run.stop is None and run.ended.status is None or run.ended.status is not None and run.ended.status not in (0, 6, 7, 8):
+        allowed = (0, 6, 7, 8, None) if run.stop else (0, 6, 7, 8)
+        if run.ended.status not in allowed:
             raise Difference(f"the run ended with {run.ended}")
         return run.ended
 
     def pick_stop(self, play):
         """How a trace is stopped, and the events that are answered before."""
-        rng, calls = self.rng, 3 * len(self.disks) + 8
+        rng, many = self.rng, 6 * play.array.boundaries + 8
         saves = [event for event, line in enumerate(play.lines) if line == "save" or event and play.lines[event - 1] == "save"]
         front = rng.choice(saves) if saves and rng.random() < 0.65 else rng.randrange(len(play.lines) + 1)
-        is_save = front in saves
-        call = rng.randrange(1, 2 * calls if is_save else calls) if is_save or front == 0 else rng.choice([1, 1, 1, 2, 2, 3, 4, rng.randrange(1, calls)])
+        few = [1, 1, 1, 2, 2, 3, 4, rng.randrange(1, many)]
+        call = rng.randrange(1, 2 * many) if front in saves else rng.randrange(1, many) if front == 0 else rng.choice(few)
         return stops.Stop(rng.choice(["fail", "fail", "kill", "kill", "tear"]), len(play.output(front)), call), front
 
     def play(self, words, array, lines):
@@ -200,6 +207,7 @@ class History:
             if images.get(member) != before[member].image:
                 raise Difference(f"member {member}, which is out, was changed")
         saves = {save.number: save for event, save in play.saves.items() if event < begun}
+        self.counts["in saves"] += run.stop is not None and begun - 1 in play.saves
         is_spoiled = any(before[member].is_spoiled for member in good if member in before)
         self.disks = self.ledger.disks_after(before, images, saves, is_spoiled)
         self.see_seals(run, play, begun)
@@ -234,13 +242,13 @@ class History:
         if isinstance(answer, str):
             self.counts[answer] += 1
             self.refused_run(answer)
-        elif not answer.is_sure:
-            self.counts["opened"] += 1
-            self.unsure_run(answer)
-        else:
-            self.counts["opened"] += 1
-            self.counts[self.ledger.check_opened(answer, self.disks)] += 1
+            return
+        self.counts["opened"] += 1
+        self.counts[self.ledger.check_opened(answer, self.disks)] += 1
+        if answer.is_sure:
             self.opened_run(answer)
+        else:
+            self.unsure_run(answer)
 
     def pick_words(self):
         path = self.rng.choice(traces.PATHS)

@@ -7,7 +7,7 @@ HERE = os.path.dirname(os.path.abspath(__file__))
 sys.path.append(os.path.join(HERE, "..", "soak"))
 from model import GOOD  # noqa: E402
 from opening import label_of  # noqa: E402
-from saved import good_members  # noqa: E402
+from saved import body_of, good_members  # noqa: E402
 
 
 class Difference(Exception):
@@ -17,7 +17,7 @@ class Difference(Exception):
 # An image with the save of which it has the label and the body, if it is sealed, and whether its bytes, or bytes that were copied to it, were changed by hand.
 Disk = collections.namedtuple("Disk", "image save is_spoiled")
 # A state that was saved, or was to be when a run was stopped: good are the members that were good then.
-Save = collections.namedtuple("Save", "number shape phase good sites pending homes copies recent blocks")
+Save = collections.namedtuple("Save", "number body shape phase good sites pending homes copies recent blocks")
 
 
 def state_of(array):
@@ -27,8 +27,8 @@ def state_of(array):
 
 
 def save_of(array, number):
-    shape = array.l, array.n, array.b, array.k, array.m
-    return Save(number, shape, array.phase(), good_members(array), *state_of(array))
+    good = good_members(array)
+    return Save(number, body_of(array, good), (array.l, array.n, array.b, array.k, array.m), array.phase(), good, *state_of(array))
 
 
 def see(what, want, got):
@@ -56,7 +56,7 @@ class Ledger:
     # an array that was opened
 
     def check_opened(self, array, disks):
-        """An array made of members that nobody else touched holds what was written; and all that was saved, where all are of one save."""
+        """An array made of members that nobody else touched holds what was written; and all that was saved, where all are of one save. What it was made of."""
         good = {member for member in range(2 * array.b) if array.members[member // 2][member % 2] == GOOD}
         if any(disks[member].is_spoiled for member in good):
             return "spoiled"
@@ -66,6 +66,7 @@ class Ledger:
         saves = {id(disks[member].save): disks[member].save for member in good}
         if len(saves) != 1:
             return "mixed"
+        see("the good members of one save agree on each block", True, array.is_sure)
         self.check_saved(array, next(iter(saves.values())), disks, good)
         return "as saved"
 
@@ -102,9 +103,10 @@ class Ledger:
     def disk_after(self, disk, member, image, saves, is_spoiled):
         if disk and disk.image == image:
             return disk
-        label = label_of(member, image)
-        if label is None or not label.sealed:
-            return Disk(image, None, is_spoiled)
-        if label.sequence not in saves:
-            raise Difference(f"member {member} was changed and is sealed as of save {label.sequence}; the saves of this run: {sorted(saves)}")
-        return Disk(image, saves[label.sequence], is_spoiled)
+        label, was_spoiled = label_of(member, image), bool(disk and disk.is_spoiled)
+        save = saves.get(label.sequence) if label and label.sealed else None
+        is_whole = save is not None and (label.form, label.body(image)) == (b"2", save.body)
+        if label and label.sealed and not is_whole and not was_spoiled:
+            what = "another body than it was to have" if save else f"and none such was made: {sorted(saves)} were"
+            raise Difference(f"member {member} was changed, and is sealed as of save {label.sequence}, {what}")
+        return Disk(image, save if is_whole else None, is_spoiled or was_spoiled)

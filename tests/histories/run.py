@@ -21,7 +21,7 @@ sys.path.insert(0, HERE)
 from history import Folder, History, new_folder  # noqa: E402
 from ledger import Difference  # noqa: E402
 
-NUMBERS = ("runs", "stops", "changes", "opened", "unclean", "nostate", "as saved", "mixed", "spoiled", "unsure")
+NUMBERS = ("runs", "stops", "in saves", "changes", "opened", "unclean", "nostate", "as saved", "mixed", "spoiled", "unsure")
 
 
 def words():
