@@ -84,7 +84,7 @@ class History:
         self.rng = random.Random(f"history {seed}")
         self.steps, self.counts, self.ledger = [], collections.Counter(), Ledger()
         # the disks by their members; what they were before each run, and those of them that could be opened
-        self.disks, self.older, self.openable = {}, [], []
+        self.disks, self.older, self.openable, self.is_back = {}, [], [], False
 
     def images(self):
         return {member: disk.image for member, disk in self.disks.items()}
@@ -111,10 +111,11 @@ class History:
 
     def change(self):
         is_open = self.openable and self.openable[-1] == self.disks
-        if self.openable and self.rng.random() < (0.3 if is_open else 0.85):
+        self.is_back = bool(self.openable) and self.rng.random() < (0.3 if is_open else 0.85)
+        if self.is_back:
             self.disks = dict(self.rng.choice(self.openable))
             self.tell(["all members are as before an earlier run"])
-        if self.rng.random() < 0.7:
+        if self.rng.random() < (0.4 if self.is_back else 0.8):
             self.tell(between.change_some(self.rng, self.disks, self.older))
 
     def tell(self, changes):
@@ -273,7 +274,7 @@ class History:
         self.see_unchanged(self.folder.take())
 
     def opened_run(self, array):
-        words = self.pick_words()
+        words = ["resume"] if self.is_back else self.pick_words()
         if words == ["resume"]:
             lines = traces.further_trace(self.rng, array)
             return self.play(words, array, lines if array.saves < LAST_SAVES else [line for line in lines if line != "save"])

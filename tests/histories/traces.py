@@ -125,13 +125,21 @@ def first_trace(rng):
     return [f"array {' '.join(map(str, shape))}", *with_saves(rng, lines, 0.05)]
 
 
+def short_trace(rng, shape):
+    """A save of much the same state, often without a member; so two that begin with one array may differ in their members alone."""
+    _, n, b, _, _ = shape
+    lines = [f"fail {rng.randrange(b)} {rng.randrange(2)}" for _ in range(rng.choice([0, 1, 1, 2]))]
+    return [*lines, "save", *(f"read {rng.randrange(n)}" for _ in range(rng.randrange(3)))]
+
+
 def further_trace(rng, array):
     """The lines of a resume on an array."""
     shape = array.l, array.n, array.b, array.k, array.m
     kind = rng.random()
-    if kind < 0.2:
-        lines = [line for line in mixed(rng, shape, rng.randrange(12)) if line.split(" ")[0] in READING]
-        return lines + ["save"] * (rng.random() < 0.3)
+    if kind < 0.15:
+        return [line for line in mixed(rng, shape, rng.randrange(12)) if line.split(" ")[0] in READING]
+    if kind < 0.35:
+        return short_trace(rng, shape)
     lines = mixed(rng, shape, rng.randrange(1, 16))
     if array.n >= VOLUME_BLOCKS and array.l == 512 and rng.random() < 0.4:
         lines[:0] = rng.choice([volume_writes(rng), copies(rng), volume_writes(rng) + copies(rng)])

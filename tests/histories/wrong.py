@@ -1,4 +1,4 @@
-"""Sees that histories find what is wrong: readers of the images that read them by other rules, and programs that do, leave or answer something else.
+"""Sees that histories find what is wrong: readers of the images that read them by other rules, and programs that leave or answer something else.
 
     wrong.py PROGRAM [--most N] [--only WORD]
 
@@ -236,9 +236,8 @@ class WrongHistory(History):
         return run.ended
 
 
-def find(program, most, path, images=None, output=None):
+def find(program, most, folder, images=None, output=None):
     """In which history a difference is found, or None."""
-    folder = Folder(path)
     for number in range(most):
         one = WrongHistory(program, f"wrong {number}", folder)
         one.change_images, one.change_output = images, output
@@ -249,14 +248,14 @@ def find(program, most, path, images=None, output=None):
     return None
 
 
-def find_reader(program, most, path, parts):
+def find_reader(program, most, folder, parts):
     """As `find`, with these parts of a reader in place of the right ones."""
     places = {"judge": (opening, "judge"), "label_of": (opening, "label_of"), "decode": (opened, "decode")}
     before = {name: getattr(*places[name]) for name in parts}
     try:
         for name, part in parts.items():
             setattr(*places[name], part)
-        return find(program, most, path)
+        return find(program, most, folder)
     finally:
         for name, part in before.items():
             setattr(*places[name], part)
@@ -266,10 +265,12 @@ def find_all(program, most, only=""):
     """What is wrong, and in which history that was found."""
     found = {}
     with new_folder() as path:
+        folder = Folder(path)
         for kind, table in (("reader", READERS), ("images", IMAGES), ("output", OUTPUTS)):
             for name, part in table.items():
                 if only in name:
-                    found[name] = find_reader(program, most, path, part) if kind == "reader" else find(program, most, path, **{kind: part})
+                    folder.take()
+                    found[name] = find_reader(program, most, folder, part) if kind == "reader" else find(program, most, folder, **{kind: part})
                     print(f"{kind}: {name}: " + ("not found" if found[name] is None else f"history {found[name]}"), flush=True)
     return found
 
