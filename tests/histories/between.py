@@ -55,6 +55,17 @@ def exchange(rng, disks, older):
     return f"member {other} is a copy of {one}"
 
 
+def copy_partner(rng, disks, older):
+    """A member is made of its partner by hand: it counts, with the place of its own. It is good only where what was saved says so."""
+    member = rng.choice(sorted(disks))
+    image, other = bytearray(disks[member].image), member ^ 1
+    if len(image) < PAGE:
+        return "nothing"
+    image[18] = other % 2
+    disks[other] = Disk(bytes(image), None, True)
+    return f"member {other} is a copy of {member} with its own place"
+
+
 def put(disks, member, image):
     disks[member] = Disk(bytes(image), disks[member].save, True)
 
@@ -106,7 +117,7 @@ def change_by_format(rng, disks, older):
 
 
 CHANGES = (
-    take_away, take_away, take_away, bring_back, bring_back, exchange, damage_place, damage_place, change_length, change_by_format,
+    take_away, take_away, take_away, bring_back, bring_back, exchange, copy_partner, damage_place, damage_place, change_length, change_by_format,
 )
 
 
