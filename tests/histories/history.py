@@ -15,7 +15,7 @@ import between  # noqa: E402
 import opening  # noqa: E402
 import stops  # noqa: E402
 import traces  # noqa: E402
-from ledger import Difference, Disk, Ledger, see  # noqa: E402
+from ledger import Difference, Ledger, see  # noqa: E402
 from model import GOOD, Array  # noqa: E402
 from replies import REFUSED, Play, answer_to, check_failed_answer, check_tail  # noqa: E402
 from saved import image_name, is_good  # noqa: E402
