@@ -16,12 +16,11 @@ HERE = os.path.dirname(os.path.abspath(__file__))
 sys.dont_write_bytecode = True
 sys.path.insert(0, HERE)
 import opening  # noqa: E402
+import opened  # noqa: E402
 from history import Folder, History, new_folder  # noqa: E402
 from ledger import Difference  # noqa: E402
-from opened import opened_from  # noqa: E402
 from saved import Label  # noqa: E402
 
-opened = sys.modules["opened"]
 DECODE, JUDGE, LABEL_OF = opened.decode, opening.judge, opening.label_of
 
 
@@ -31,7 +30,7 @@ def labels_by(change):
         found = {member: (copy.copy(LABEL_OF(member, image)), image) for member, image in images.items()}
         labels = {member: label for member, (label, _) in found.items() if label}
         kept = change(labels) if labels else labels
-        return opened_from({member: (kept.get(member), image) for member, (_, image) in found.items()})
+        return opened.opened_from({member: (kept.get(member), image) for member, (_, image) in found.items()})
     return {"judge": judge}
 
 
