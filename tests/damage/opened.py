@@ -107,9 +107,9 @@ def encode(state, form):
 
 
 class Opened(Array):
-    """An opened array. It isn't sure what a block holds where the good members that have it don't agree."""
+    """An opened array, and the member whose body was read. It isn't sure what a block holds where the good members that have it don't agree."""
 
-    is_sure = True
+    is_sure, source = True, None
 
 
 def values_of(array, images, block):
@@ -171,7 +171,9 @@ def opened_from(found):
         state = decode(label.body(found[member][1]), label.shape, label.form)
         if state:
             good = [other in counted and counted[other].key == label.key and state.good[other] for other in range(2 * label.shape[2])]
-            return array_of(state, label, good, {other: image for other, (_, image) in found.items()})
+            array = array_of(state, label, good, {other: image for other, (_, image) in found.items()})
+            array.source = member
+            return array
     return "nostate"
 
 

@@ -153,8 +153,8 @@ class History:
         call = rng.randrange(1, 2 * many) if front in saves else rng.randrange(1, many) if front == 0 else rng.choice(few)
         return stops.Stop(rng.choice(["fail", "fail", "kill", "kill", "tear"]), len(play.output(front)), call), front
 
-    def play(self, words, array, lines):
-        """A trace on an array, which is a blank one of a replay or was opened; what it leaves is judged."""
+    def play(self, words, array, lines, source=None):
+        """A trace on an array, which is a blank one of a replay or was opened by the body of a member; what it leaves is judged."""
         good = {m for m in range(2 * array.b) if array.members[m // 2][m % 2] == GOOD}
         play = Play(array, lines)
         stop, front = self.pick_stop(play) if self.rng.random() < (0.25 if words == ["replay"] else 0.45) else (None, 0)
@@ -162,7 +162,7 @@ class History:
         self.do(run, front)
         self.see_told(run)
         begun = self.see_replies(run, play)
-        self.leave(run, play, begun, good)
+        self.leave(run, play, begun, good, source)
 
     def see_told(self, run):
         told, status = run.ended.told, run.ended.status
@@ -197,8 +197,8 @@ class History:
 
     # what a run leaves
 
-    def leave(self, run, play, begun, good):
-        """Judges the images behind a trace of which so many events were begun, and takes them over."""
+    def leave(self, run, play, begun, good, source):
+        """Judges the images behind a trace of which so many events were begun, and takes them over. The members that were good, and the one whose body was read."""
         images, before, lines = self.folder.take(), self.disks, play.lines[:begun]
         self.ledger.note_writes(lines, play.array.l)
         if run.words != ["replay"] and all(line.split(" ")[0] in traces.READING for line in lines):
@@ -209,7 +209,7 @@ class History:
                 raise Difference(f"member {member}, which is out, was changed")
         saves = {save.number: save for event, save in play.saves.items() if event < begun}
         self.counts["in saves"] += run.stop is not None and begun - 1 in play.saves
-        is_spoiled = any(before[member].is_spoiled for member in good if member in before)
+        is_spoiled = any(before[member].is_spoiled for member in {*good, source} if member in before)
         self.disks = self.ledger.disks_after(before, images, saves, is_spoiled)
         self.see_seals(run, play, begun)
 
@@ -277,7 +277,8 @@ class History:
         words = ["resume"] if self.is_back else self.pick_words()
         if words == ["resume"]:
             lines = traces.further_trace(self.rng, array)
-            return self.play(words, array, lines if array.saves < LAST_SAVES else [line for line in lines if line != "save"])
+            lines = lines if array.saves < LAST_SAVES else [line for line in lines if line != "save"]
+            return self.play(words, array, lines, array.source)
         run = Run(words, (), self.pick_early_stop())
         output, status, *_ = self.do(run)
         self.see_told(run)

@@ -58,12 +58,13 @@ class Ledger:
     def check_opened(self, array, disks):
         """An array made of members that nobody else touched holds what was written; and all that was saved, where all are of one save. What it was made of."""
         good = {member for member in range(2 * array.b) if array.members[member // 2][member % 2] == GOOD}
-        if any(disks[member].is_spoiled for member in good):
+        parts = {*good, array.source}
+        if any(disks[member].is_spoiled for member in parts):
             return "spoiled"
         for block, value in enumerate(array.blocks):
             if not self.may_give(block, value):
                 raise Difference(f"block {block} of the opened array holds what was never written to it: {value!r}")
-        saves = {id(disks[member].save): disks[member].save for member in good}
+        saves = {id(disks[member].save): disks[member].save for member in parts}
         if len(saves) != 1:
             return "mixed"
         see("the good members of one save agree on each block", True, array.is_sure)
