@@ -7,6 +7,7 @@ Each case is a function that is named as the case, and runs in a new folder of i
 """
 import ctypes
 import fcntl
+import functools
 import os
 import platform
 import resource
@@ -263,13 +264,20 @@ TRACEME, PEEKUSER, POKEUSER, SYSCALL, SETOPTIONS = 0, 3, 6, 24, 0x4200
 CALLS_APART, ENDS_WITH_TRACER = 1, 1 << 20
 
 
+@functools.cache
+def system_trace():
+    """The function `ptrace` of the C library."""
+    call = ctypes.CDLL(None, use_errno=True).ptrace
+    call.restype = ctypes.c_long
+    call.argtypes = [ctypes.c_long, ctypes.c_long, ctypes.c_void_p, ctypes.c_void_p]
+    return call
+
+
 def trace_call(request, pid, at=0, data=0):
     """The call `ptrace` of the C library."""
-    libc = ctypes.CDLL(None, use_errno=True)
-    libc.ptrace.restype = ctypes.c_long
-    libc.ptrace.argtypes = [ctypes.c_long, ctypes.c_long, ctypes.c_void_p, ctypes.c_void_p]
+    call = system_trace()
     ctypes.set_errno(0)
-    value = libc.ptrace(request, pid, at, data)
+    value = call(request, pid, at, data)
     if value == -1 and ctypes.get_errno():
         raise OSError(ctypes.get_errno(), os.strerror(ctypes.get_errno()))
     return value

@@ -107,9 +107,9 @@ def encode(state, form):
 
 
 class Opened(Array):
-    """An opened array. It isn't sure what a block holds where the good members that have it don't agree."""
+    """An opened array, and the member whose body was read. It isn't sure what a block holds where the good members that have it don't agree."""
 
-    is_sure = True
+    is_sure, source = True, None
 
 
 def values_of(array, images, block):
@@ -160,9 +160,8 @@ def array_of(state, label, members, images):
     return array
 
 
-def opened(folder):
-    """What an opening of the images in a folder gives: `nostate`, `unclean`, or the array."""
-    found = {member: read_label(folder, member) for member in range(32)}
+def opened_from(found):
+    """What an opening of members gives: `nostate`, `unclean`, or the array. Each of `found` has its own label, or None, and its image."""
     labels = {member: label for member, (label, _) in found.items() if label and member // 2 < label.shape[2]}
     newest = max((label.sequence for label in labels.values()), default=None)
     counted = {member: label for member, label in labels.items() if label.sequence == newest}
@@ -172,5 +171,12 @@ def opened(folder):
         state = decode(label.body(found[member][1]), label.shape, label.form)
         if state:
             good = [other in counted and counted[other].key == label.key and state.good[other] for other in range(2 * label.shape[2])]
-            return array_of(state, label, good, {other: image for other, (_, image) in found.items()})
+            array = array_of(state, label, good, {other: image for other, (_, image) in found.items()})
+            array.source = member
+            return array
     return "nostate"
+
+
+def opened(folder):
+    """What an opening of the images in a folder gives."""
+    return opened_from({member: read_label(folder, member) for member in range(32)})
