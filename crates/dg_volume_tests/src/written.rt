@@ -1,7 +1,8 @@
 // The volume F of 128 fragments of 1024 bytes, written block by block.
 ghost use Rattle.std.specs.Prelude.{IfOk};
 ghost use Rattle.dg_model.specs.Shapes.{IsShape};
-ghost use Rattle.dg_volume.specs.Volumes.{IsWell, loose_phase};
+ghost use Rattle.dg_volume.specs.Volumes.{IsWell, Leaves, loose_phase};
+ghost use Rattle.dg_volume_tests.specs.Ready.{IsOver};
 
 use dg_io::{MemRack, Rack};
 use dg_model::Shape;
@@ -44,7 +45,7 @@ fn write<R: Rack + Drop>(
     bytes: &[u8],
 ) -> Result<Volume<Loose, R>, Fail>
     requires { IsWell loose_phase R.Rack volume }
-    ensures { IfOk result (IsWell loose_phase R.Rack) }
+    ensures { IfOk result (Leaves loose_phase loose_phase R.Rack volume) }
 {
     let size = volume.shape().l;
     if bytes.len() != size as usize || block >= 128 {
@@ -65,7 +66,7 @@ pub fn up<R: Rack + Drop>(
     image: &[u8],
 ) -> Result<Volume<Loose, R>, Fail>
     requires { IsShape shape }
-    ensures { IfOk result (IsWell loose_phase R.Rack) }
+    ensures { IfOk result (IsOver R.Rack shape rack) }
 {
     let mut volume = match Volume::array(alloc, rack, shape) {
         Ok(blank) => blank,

@@ -1,0 +1,145 @@
+// Calls of a volume over a rack of the boundaries in use, which leave it so that `regroup` may be called.
+#![tactic(auto, using(crate::proofs::ReadyLemmas::stays_ready, crate::proofs::ReadyLemmas::regrouped_ready, crate::proofs::ReadyLemmas::has_boundaries, crate::proofs::LiveLemmas::live_ready))]
+
+ghost use Rattle.std.specs.Prelude.{IfOk};
+ghost use Rattle.dg_model.specs.Shapes.{IsShape};
+ghost use Rattle.dg_regroup.specs.LiveGhosts.{live};
+ghost use Rattle.dg_regroup.specs.LiveRacks.{live_count};
+ghost use Rattle.dg_volume.specs.Volumes.{any_phase};
+ghost use Rattle.dg_volume_tests.specs.Ready.{IsReady};
+
+use crate::written::up;
+use dg_io::{MemSink, Rack, Reduces};
+use dg_model::Shape;
+use dg_regroup::{LiveRack, names_tell_boundaries};
+use dg_volume::{
+    AnyHome, AnyPhase, CatAnswer, FailAnswer, ReadAnswer, RegroupAnswer, Volume, WriteAnswer,
+};
+use std::alloc::Global;
+use std::test::Fail;
+use ufs_model::is_path;
+
+/// The volume of an image over the boundaries 0 to 3 of a rack.
+pub fn up_live<R: Rack + Drop>(
+    alloc: Global,
+    rack: R,
+    shape: Shape,
+    image: &[u8],
+) -> Result<Volume<AnyPhase, LiveRack<R>>, Fail>
+    requires { IsShape shape }
+    ensures { IfOk result (IsReady any_phase (live R.Rack) live_count) }
+{
+    names_tell_boundaries();
+    if shape.b > 4 {
+        return Err("boundaries".into());
+    }
+    let numbers = Vec::from_slice(alloc, b"\x00\x01\x02\x03")?;
+    let volume = up(alloc, LiveRack::new(rack, numbers), shape, image)?;
+    Ok(volume.into_any())
+}
+
+/// Makes both members of a boundary fail. It answers whether neither was out before.
+pub fn lose<R: Reduces>(volume: &mut Volume<AnyPhase, R>, boundary: u32) -> bool
+    requires { IsReady any_phase R.Rack R.boundaries volume.old }
+    ensures { IsReady any_phase R.Rack R.boundaries volume.new }
+{
+    let answers = [volume.fail(boundary, 0), volume.fail(boundary, 1)];
+    answers == [FailAnswer::Failed; 2]
+}
+
+/// Goes on without the lost boundaries.
+pub fn go_on<R: Reduces>(
+    alloc: Global,
+    volume: &mut Volume<AnyPhase, R>,
+) -> Result<RegroupAnswer, Fail>
+    requires { IsReady any_phase R.Rack R.boundaries volume.old }
+    ensures { IfOk result (λ answer. IsReady any_phase R.Rack R.boundaries volume.new) }
+{
+    match volume.regroup(alloc) {
+        Ok(answer) => Ok(answer),
+        Err(_) => Err("memory".into()),
+    }
+}
+
+/// Settles a volume.
+pub fn settle<R: Reduces>(alloc: Global, volume: &mut Volume<AnyPhase, R>) -> Result<(), Fail>
+    requires { IsReady any_phase R.Rack R.boundaries volume.old }
+    ensures { IsReady any_phase R.Rack R.boundaries volume.new }
+{
+    match volume.settle(alloc) {
+        Ok(Ok(())) => Ok(()),
+        Ok(Err(_)) => Err("refused".into()),
+        Err(_) => Err("memory".into()),
+    }
+}
+
+/// Reads a block. It answers whether the block is these bytes, and `None` where it is gone.
+pub fn has_block<R: Reduces>(
+    volume: &mut Volume<AnyPhase, R>,
+    block: u32,
+    bytes: &[u8],
+) -> Result<Option<bool>, Fail>
+    requires { IsReady any_phase R.Rack R.boundaries volume.old }
+    ensures { IfOk result (λ has. IsReady any_phase R.Rack R.boundaries volume.new) }
+{
+    let mut buf = [0xee; 1024];
+    let size = volume.shape().l;
+    if size != 1024 {
+        return Err("size".into());
+    }
+    match volume.read(block, &mut buf) {
+        ReadAnswer::Got => Ok(Some(buf.as_slice() == bytes)),
+        ReadAnswer::Unavailable => Ok(None),
+        ReadAnswer::Range => Err("range".into()),
+    }
+}
+
+/// Writes a block of an array without a lost boundary.
+pub fn put<R: Reduces>(
+    alloc: Global,
+    volume: &mut Volume<AnyPhase, R>,
+    block: u32,
+    bytes: &[u8],
+) -> Result<(), Fail>
+    requires { IsReady any_phase R.Rack R.boundaries volume.old }
+    ensures { IfOk result (λ done. IsReady any_phase R.Rack R.boundaries volume.new) }
+{
+    let size = volume.shape().l;
+    if bytes.len() != size as usize {
+        return Err("size".into());
+    }
+    match volume.write_block(alloc, block, bytes) {
+        Ok(WriteAnswer::Written) => Ok(()),
+        Ok(_) => Err("refused".into()),
+        Err(_) => Err("memory".into()),
+    }
+}
+
+/// Gives a file. It answers whether these bytes were given.
+pub fn gives<R: Reduces>(
+    alloc: Global,
+    volume: &mut Volume<AnyPhase, R>,
+    path: &[u8],
+    bytes: &[u8],
+) -> Result<(CatAnswer, bool), Fail>
+    requires { IsReady any_phase R.Rack R.boundaries volume.old }
+    ensures { IfOk result (λ given. IsReady any_phase R.Rack R.boundaries volume.new) }
+{
+    if !is_path(path) {
+        return Err("path".into());
+    }
+    let mut out = MemSink::new(alloc, 64, Vec::new(alloc))?;
+    let answer = volume.cat(path, &mut out);
+    Ok((answer, out.taken() == bytes))
+}
+
+/// Tells the home of the file at a path.
+pub fn home<R: Reduces>(volume: &mut Volume<AnyPhase, R>, path: &[u8]) -> Result<AnyHome, Fail>
+    requires { IsReady any_phase R.Rack R.boundaries volume.old }
+    ensures { IfOk result (λ home. IsReady any_phase R.Rack R.boundaries volume.new) }
+{
+    if !is_path(path) {
+        return Err("path".into());
+    }
+    Ok(volume.home(path))
+}

@@ -1,0 +1,172 @@
+// Going on without lost boundaries, on the volume F over a rack of the boundaries in use. The file of inode 5 has its home on boundary 2.
+#![tactic(auto, using(crate::proofs::ReadyLemmas::stays_ready))]
+
+ghost use Rattle.std.specs.Prelude.{IfOk};
+ghost use Rattle.dg_volume.specs.Volumes.{any_phase};
+ghost use Rattle.dg_volume_tests.specs.Ready.{IsReady};
+
+use crate::calls::{gives, go_on, has_block, home, lose, put, settle, up_live};
+use crate::written::{image, rack, shape_of};
+use dg_io::Reduces;
+use dg_volume::{
+    AnyHome, AnyPhase, CatAnswer, FailAnswer, HomeAnswer, Phase, RebuildAnswer, RegroupAnswer,
+    ReplaceAnswer, Volume,
+};
+use std::alloc::Global;
+use std::process::Abort;
+use std::test::Fail;
+
+/// A settled volume is read anew without boundary 2, and the blocks of its file are cut.
+const FIRST: RegroupAnswer = RegroupAnswer::Regrouped {
+    boundaries: 1,
+    blocks: 53,
+};
+
+/// A boundary that was taken out of use keeps its number, and no member of it is there.
+fn check_out_of_use<R: Reduces>(
+    rt: &impl Abort,
+    alloc: Global,
+    volume: &mut Volume<AnyPhase, R>,
+    boundary: u8,
+) -> Result<(), Fail>
+    requires { IsReady any_phase R.Rack R.boundaries volume.old }
+    ensures { IfOk result (λ done. IsReady any_phase R.Rack R.boundaries volume.new) }
+{
+    let number = u32::from(boundary);
+    assert_eq!(rt; volume.fail(number, 0), FailAnswer::Already);
+    assert_eq!(rt; volume.replace(number, 1), ReplaceAnswer::Lost);
+    let lost = RebuildAnswer::Lost(boundary);
+    assert_eq!(rt; volume.rebuild(alloc, number, 9)?, lost);
+    Ok(())
+}
+
+/// Of a settled volume boundary 2 is lost. The file on boundary 3 has its home at place 2 then.
+fn lose_first<R: Reduces>(
+    rt: &impl Abort,
+    alloc: Global,
+    volume: &mut Volume<AnyPhase, R>,
+) -> Result<(), Fail>
+    requires { IsReady any_phase R.Rack R.boundaries volume.old }
+    ensures { IfOk result (λ done. IsReady any_phase R.Rack R.boundaries volume.new) }
+{
+    assert_eq!(rt; go_on(alloc, volume)?, RegroupAnswer::Whole);
+    assert!(rt; lose(volume, 2));
+    assert_eq!(rt; go_on(alloc, volume)?, FIRST);
+    assert_eq!(rt; volume.live(), b"\x00\x01\x03".as_slice());
+    check_out_of_use(rt, alloc, volume, 2)?;
+    settle(alloc, volume)?;
+    let at = HomeAnswer::At {
+        home: 3,
+        copy: None,
+    };
+    assert_eq!(rt; home(volume, b"/a")?, AnyHome::Is(at));
+    assert_eq!(rt; has_block(volume, 36, b"")?, None);
+    assert_eq!(rt;
+        gives(alloc, volume, b"/d/b", b"")?,
+        (CatAnswer::Unavailable, true)
+    );
+    assert_eq!(rt;
+        gives(alloc, volume, b"/a", b"hello")?,
+        (CatAnswer::Given(5), true)
+    );
+    Ok(())
+}
+
+/// Boundary 0 is lost, without which no block is cut, and then boundary 1.
+fn lose_others<R: Reduces>(
+    rt: &impl Abort,
+    alloc: Global,
+    volume: &mut Volume<AnyPhase, R>,
+) -> Result<(), Fail>
+    requires { IsReady any_phase R.Rack R.boundaries volume.old }
+{
+    assert!(rt; lose(volume, 0));
+    let second = RegroupAnswer::Regrouped {
+        boundaries: 1,
+        blocks: 0,
+    };
+    assert_eq!(rt; go_on(alloc, volume)?, second);
+    put(alloc, volume, 36, &[0; 1024])?;
+    assert_eq!(rt; has_block(volume, 36, &[0; 1024])?, Some(true));
+    assert!(rt; lose(volume, 1));
+    assert_eq!(rt; go_on(alloc, volume)?, RegroupAnswer::TooFew);
+    Ok(())
+}
+
+#[test]
+fn losses_one_after_another(rt: HostRuntime) -> Result<(), Fail> {
+    let alloc = rt.alloc();
+    let mut volume = up_live(
+        alloc,
+        rack(alloc, &[])?,
+        shape_of(4, 64, 2)?,
+        &image(alloc)?,
+    )?;
+    settle(alloc, &mut volume)?;
+    lose_first(&rt, alloc, &mut volume)?;
+    lose_others(&rt, alloc, &mut volume)
+}
+
+/// The volume is in a phase, and loose once so many lost boundaries were taken out of use.
+fn check_phases<R: Reduces>(
+    rt: &impl Abort,
+    alloc: Global,
+    volume: &mut Volume<AnyPhase, R>,
+    phase: Phase,
+    count: u32,
+) -> Result<(), Fail>
+    requires { IsReady any_phase R.Rack R.boundaries volume.old }
+{
+    assert_eq!(rt;
+        (volume.phase(), volume.lost().count_ones()),
+        (phase, count)
+    );
+    let RegroupAnswer::Regrouped { boundaries, .. } = go_on(alloc, volume)? else {
+        return Err("answer".into());
+    };
+    assert_eq!(rt; boundaries, count);
+    assert_eq!(rt; (volume.phase(), volume.lost()), (Phase::Loose, 0));
+    Ok(())
+}
+
+#[test]
+fn a_loose_and_a_settled_volume(rt: HostRuntime) -> Result<(), Fail> {
+    let alloc = rt.alloc();
+    let shape = shape_of(4, 64, 2)?;
+    let files = image(alloc)?;
+    let mut volume = up_live(alloc, rack(alloc, &[])?, shape, &files)?;
+    assert!(rt; lose(&mut volume, 2));
+    check_phases(&rt, alloc, &mut volume, Phase::Loose, 1)?;
+    let mut volume = up_live(alloc, rack(alloc, &[])?, shape, &files)?;
+    settle(alloc, &mut volume)?;
+    assert!(rt; lose(&mut volume, 0) && lose(&mut volume, 2));
+    check_phases(&rt, alloc, &mut volume, Phase::Settled, 2)
+}
+
+/// Writes the superblock, an indirect block and the inodes.
+fn put_three<R: Reduces>(
+    alloc: Global,
+    volume: &mut Volume<AnyPhase, R>,
+    image: &[u8],
+) -> Result<(), Fail>
+    requires { IsReady any_phase R.Rack R.boundaries volume.old }
+    ensures { IfOk result (λ done. IsReady any_phase R.Rack R.boundaries volume.new) }
+{
+    if image.len() != 131072 {
+        return Err("image".into());
+    }
+    put(alloc, volume, 8, &image[8192..9216])?;
+    put(alloc, volume, 9, &image[9216..10240])?;
+    put(alloc, volume, 84, &image[86016..87040])?;
+    put(alloc, volume, 28, &image[28672..29696])
+}
+
+// Of the calls from 8 on, block 84 is written by 13 and 14, and read by 17, and by 18 where that fails.
+#[test]
+fn a_worn_volume(rt: HostRuntime) -> Result<(), Fail> {
+    let alloc = rt.alloc();
+    let below = rack(alloc, &[17, 18])?;
+    let mut volume = up_live(alloc, below, shape_of(4, 64, 1)?, b"")?;
+    put_three(alloc, &mut volume, &image(alloc)?)?;
+    check_phases(&rt, alloc, &mut volume, Phase::Worn, 1)
+}
