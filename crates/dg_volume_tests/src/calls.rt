@@ -1,5 +1,5 @@
 // Calls of a volume over a rack of the boundaries in use, which leave it so that `regroup` may be called.
-#![tactic(auto, using(crate::proofs::ReadyLemmas::stays_ready, crate::proofs::ReadyLemmas::regrouped_ready, crate::proofs::ReadyLemmas::has_boundaries, crate::proofs::LiveLemmas::live_ready))]
+#![tactic(auto, using(crate::proofs::ReadyLemmas::stays_ready, crate::proofs::ReadyLemmas::regrouped_ready, crate::proofs::ReadyLemmas::has_boundaries))]
 
 ghost use Rattle.std.specs.Prelude.{IfOk};
 ghost use Rattle.dg_model.specs.Shapes.{IsShape};
@@ -9,17 +9,18 @@ ghost use Rattle.dg_volume.specs.Volumes.{any_phase};
 ghost use Rattle.dg_volume_tests.specs.Ready.{IsReady};
 
 use crate::written::up;
-use dg_io::{MemSink, Rack, Reduces};
+use dg_io::{Failed, MemSink, Rack, Reduces};
 use dg_model::Shape;
 use dg_regroup::{LiveRack, names_tell_boundaries};
 use dg_volume::{
-    AnyHome, AnyPhase, CatAnswer, FailAnswer, ReadAnswer, RegroupAnswer, Volume, WriteAnswer,
+    AnyHome, AnyPhase, CatAnswer, FailAnswer, PathList, ReadAnswer, RegroupAnswer, TreeAnswer,
+    Volume, WriteAnswer,
 };
 use std::alloc::Global;
 use std::test::Fail;
 use ufs_model::is_path;
 
-/// The volume of an image over the boundaries 0 to 3 of a rack.
+/// The volume of an image, over a rack of all boundaries that there may be.
 pub fn up_live<R: Rack + Drop>(
     alloc: Global,
     rack: R,
@@ -30,11 +31,8 @@ pub fn up_live<R: Rack + Drop>(
     ensures { IfOk result (IsReady any_phase (live R.Rack) live_count) }
 {
     names_tell_boundaries();
-    if shape.b > 4 {
-        return Err("boundaries".into());
-    }
-    let numbers = Vec::from_slice(alloc, b"\x00\x01\x02\x03")?;
-    let volume = up(alloc, LiveRack::new(rack, numbers), shape, image)?;
+    let live = LiveRack::of_all(alloc, rack)?;
+    let volume = up(alloc, live, shape, image)?;
     Ok(volume.into_any())
 }
 
@@ -142,4 +140,51 @@ pub fn home<R: Reduces>(volume: &mut Volume<AnyPhase, R>, path: &[u8]) -> Result
         return Err("path".into());
     }
     Ok(volume.home(path))
+}
+
+/// The paths of files that lost blocks. It counts them, and those of another file than `/d/b`, which is inode 5.
+#[derive(Drop)]
+pub struct LostPaths {
+    pub files: u32,
+    pub others: u32,
+}
+
+impl PathList for LostPaths {
+    ghost took = { λ old paths new. Unit {0} };
+
+    ghost took_part = { λ old paths new. Unit {0} };
+
+    ghost faults = { λ list. 0 };
+
+    fn line(&mut self, inode: u32, path: &[u8]) -> Result<(), Failed> {
+        self.files = self.files.saturating_add(1);
+        if inode != 5 || path != b"/d/b".as_slice() {
+            self.others = self.others.saturating_add(1);
+        }
+        Ok(())
+    }
+
+    ghost nothing = { λ s. tt };
+
+    ghost then = { λ a b c x y first second. tt };
+
+    ghost then_part = { λ a b c x y first second. tt };
+
+    ghost part = { λ a b x y first. tt };
+}
+
+/// Names the files that lost blocks. It answers whether `/d/b` was the only one.
+pub fn only_b_is_lost<R: Reduces>(
+    alloc: Global,
+    volume: &mut Volume<AnyPhase, R>,
+) -> Result<bool, Fail>
+    requires { IsReady any_phase R.Rack R.boundaries volume.old }
+    ensures { IfOk result (λ is. IsReady any_phase R.Rack R.boundaries volume.new) }
+{
+    let mut lost = LostPaths {
+        files: 0,
+        others: 0,
+    };
+    let answer = volume.lost_files(alloc, &mut lost)?;
+    Ok(answer == TreeAnswer::Is(CatAnswer::Given(1)) && (lost.files, lost.others) == (1, 0))
 }

@@ -7,7 +7,7 @@ ghost use Rattle.dg_volume_tests.specs.Ready.{IsReady};
 use crate::calls::{go_on, has_block, lose, settle, up_live};
 use crate::written::{image, rack, shape_of};
 use dg_io::Reduces;
-use dg_volume::{AnyPhase, FailAnswer, Hot, RegroupAnswer, SaveAnswer, Volume};
+use dg_volume::{AnyPhase, FailAnswer, Hot, Phase, RegroupAnswer, SaveAnswer, Volume};
 use std::alloc::Global;
 use std::process::Abort;
 use std::test::Fail;
@@ -75,11 +75,11 @@ fn go_on_sealed<R: Reduces>(
     let RegroupAnswer::Regrouped { boundaries, .. } = go_on(alloc, volume)? else {
         return Err("answer".into());
     };
-    let lost = volume.lost().count_ones();
+    let after = (boundaries, volume.lost().count_ones(), volume.phase());
     assert!(rt; has_blocks(volume, image)?);
-    match (boundaries, lost) {
-        (1, 0) => Ok(Came::Never),
-        (1, 1) | (2, 0) => Ok(Came::Within),
+    match after {
+        (1, 0, Phase::Loose) => Ok(Came::Never),
+        (1, 1, Phase::Worn) | (2, 0, Phase::Loose) => Ok(Came::Within),
         _ => Err("lost".into()),
     }
 }

@@ -2,15 +2,15 @@
 #![tactic(auto, using(crate::proofs::ReadyLemmas::stays_ready))]
 
 ghost use Rattle.std.specs.Prelude.{IfOk};
-ghost use Rattle.dg_volume.specs.Volumes.{any_phase};
+ghost use Rattle.dg_volume.specs.Volumes.{IsWell, any_phase};
 ghost use Rattle.dg_volume_tests.specs.Ready.{IsReady};
 
-use crate::calls::{gives, go_on, has_block, home, lose, put, settle, up_live};
+use crate::calls::{gives, go_on, has_block, home, lose, only_b_is_lost, put, settle, up_live};
 use crate::written::{image, rack, shape_of};
-use dg_io::Reduces;
+use dg_io::{Checkpoint, Disks, Reduces};
 use dg_volume::{
-    AnyHome, AnyPhase, CatAnswer, FailAnswer, HomeAnswer, Phase, RebuildAnswer, RegroupAnswer,
-    ReplaceAnswer, Volume,
+    AnyHome, AnyPhase, CatAnswer, CheckpointAnswer, DropDiskAnswer, FailAnswer, HomeAnswer, Hot,
+    MendDiskAnswer, Phase, RebuildAnswer, RegroupAnswer, ReplaceAnswer, Volume,
 };
 use std::alloc::Global;
 use std::process::Abort;
@@ -61,6 +61,7 @@ fn lose_first<R: Reduces>(
     };
     assert_eq!(rt; home(volume, b"/a")?, AnyHome::Is(at));
     assert_eq!(rt; has_block(volume, 36, b"")?, None);
+    assert!(rt; only_b_is_lost(alloc, volume)?);
     assert_eq!(rt;
         gives(alloc, volume, b"/d/b", b"")?,
         (CatAnswer::Unavailable, true)
@@ -79,8 +80,13 @@ fn lose_others<R: Reduces>(
     volume: &mut Volume<AnyPhase, R>,
 ) -> Result<(), Fail>
     requires { IsReady any_phase R.Rack R.boundaries volume.old }
+    ensures { IfOk result (λ done. IsReady any_phase R.Rack R.boundaries volume.new) }
 {
     assert!(rt; lose(volume, 0));
+    assert_eq!(rt;
+        gives(alloc, volume, b"/z", b"")?,
+        (CatAnswer::Given(0), true)
+    );
     let second = RegroupAnswer::Regrouped {
         boundaries: 1,
         blocks: 0,
@@ -90,6 +96,42 @@ fn lose_others<R: Reduces>(
     assert_eq!(rt; has_block(volume, 36, &[0; 1024])?, Some(true));
     assert!(rt; lose(volume, 1));
     assert_eq!(rt; go_on(alloc, volume)?, RegroupAnswer::TooFew);
+    assert_eq!(rt; volume.live(), b"\x01\x03".as_slice());
+    Ok(())
+}
+
+/// A plain rack keeps no checkpoint, so a volume with a boundary out of use isn't saved.
+fn check_not_saved<R: Checkpoint>(
+    rt: &impl Abort,
+    alloc: Global,
+    volume: &mut Volume<AnyPhase, R>,
+) -> Result<(), Fail>
+    requires { IsWell any_phase R.Rack volume.old }
+    ensures { IfOk result (λ done. IsWell any_phase R.Rack volume.new) }
+{
+    let hot = Hot::new(alloc)?;
+    let answer = volume.checkpoint(alloc, &hot)?;
+    assert_eq!(rt; answer, CheckpointAnswer::NotSaved);
+    Ok(())
+}
+
+/// A plain rack has no disks, of a boundary in use and of another one.
+fn check_no_disks<R: Disks>(
+    rt: &impl Abort,
+    volume: &mut Volume<AnyPhase, R>,
+    boundary: u32,
+) -> Result<(), Fail>
+    requires { IsWell any_phase R.Rack volume.old }
+    ensures { IsWell any_phase R.Rack volume.new }
+{
+    if volume.disks().is_some() {
+        return Err("disks".into());
+    }
+    assert_eq!(rt; volume.drop_disk(boundary, 0), DropDiskAnswer::Plain);
+    if volume.disks().is_some() {
+        return Err("disks".into());
+    }
+    assert_eq!(rt; volume.mend(boundary, 0), MendDiskAnswer::Plain);
     Ok(())
 }
 
@@ -104,7 +146,10 @@ fn losses_one_after_another(rt: HostRuntime) -> Result<(), Fail> {
     )?;
     settle(alloc, &mut volume)?;
     lose_first(&rt, alloc, &mut volume)?;
-    lose_others(&rt, alloc, &mut volume)
+    lose_others(&rt, alloc, &mut volume)?;
+    check_not_saved(&rt, alloc, &mut volume)?;
+    check_no_disks(&rt, &mut volume, 1)?;
+    check_no_disks(&rt, &mut volume, 2)
 }
 
 /// The volume is in a phase, and loose once so many lost boundaries were taken out of use.

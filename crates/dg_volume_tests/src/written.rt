@@ -59,6 +59,7 @@ fn write<R: Rack + Drop>(
 }
 
 /// The loose volume of an image: the blocks that aren't zero were written, ascending.
+#[tactic(auto, using(crate::proofs::OverLemmas::over_blank, crate::proofs::OverLemmas::over_on))]
 pub fn up<R: Rack + Drop>(
     alloc: Global,
     rack: R,
