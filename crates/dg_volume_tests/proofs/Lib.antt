@@ -1,3 +1,2 @@
 mod LiveLemmas
-mod OverLemmas
 mod ReadyLemmas

@@ -8,7 +8,6 @@ ghost use Rattle.dg_regroup.specs.LiveRacks.{live_count};
 ghost use Rattle.dg_volume.specs.Volumes.{any_phase};
 ghost use Rattle.dg_volume_tests.specs.Ready.{IsReady};
 
-use crate::written::up;
 use dg_io::{Failed, MemSink, Rack, Reduces};
 use dg_model::Shape;
 use dg_regroup::{LiveRack, names_tell_boundaries};
@@ -19,6 +18,24 @@ use dg_volume::{
 use std::alloc::Global;
 use std::test::Fail;
 use ufs_model::is_path;
+
+/// Writes the blocks of an image that aren't zero, ascending.
+fn fill<R: Reduces>(
+    alloc: Global,
+    volume: &mut Volume<AnyPhase, R>,
+    image: &[u8],
+) -> Result<(), Fail>
+    requires { IsReady any_phase R.Rack R.boundaries volume.old }
+    ensures { IfOk result (λ done. IsReady any_phase R.Rack R.boundaries volume.new) }
+{
+    let zeros = [0; 1024];
+    for (block, bytes) in image.chunks(1024).enumerate() {
+        if block < 128 && bytes != zeros.as_slice() {
+            put(alloc, volume, block as u32, bytes)?;
+        }
+    }
+    Ok(())
+}
 
 /// The volume of an image, over a rack of all boundaries that there may be.
 pub fn up_live<R: Rack + Drop>(
@@ -32,8 +49,12 @@ pub fn up_live<R: Rack + Drop>(
 {
     names_tell_boundaries();
     let live = LiveRack::of_all(alloc, rack)?;
-    let volume = up(alloc, live, shape, image)?;
-    Ok(volume.into_any())
+    let mut volume = match Volume::array(alloc, live, shape) {
+        Ok(blank) => blank.into_any(),
+        Err(_) => return Err("memory".into()),
+    };
+    fill(alloc, &mut volume, image)?;
+    Ok(volume)
 }
 
 /// Makes both members of a boundary fail. It answers whether neither was out before.

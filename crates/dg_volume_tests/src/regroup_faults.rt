@@ -1,5 +1,5 @@
 // Faults while a volume goes on without a lost boundary: each call of a `regroup` fails in a run of its own.
-#![tactic(auto, using(crate::proofs::ReadyLemmas::stays_ready))]
+#![tactic(auto)]
 
 ghost use Rattle.dg_volume.specs.Volumes.{any_phase};
 ghost use Rattle.dg_volume_tests.specs.Ready.{IsReady};
@@ -25,24 +25,13 @@ enum Came {
 
 /// Makes both members of boundary 2 fail, and one of each other one. It answers whether no member was out before, so that the other
 /// boundaries aren't lost.
+#[tactic(auto, using(crate::proofs::ReadyLemmas::stays_ready))]
 fn lose_half<R: Reduces>(volume: &mut Volume<AnyPhase, R>) -> bool
     requires { IsReady any_phase R.Rack R.boundaries volume.old }
     ensures { IsReady any_phase R.Rack R.boundaries volume.new }
 {
     let answers = [volume.fail(0, 0), volume.fail(1, 0), volume.fail(3, 0)];
     lose(volume, 2) && answers == [FailAnswer::Failed; 3] && volume.lost() == 0b100
-}
-
-/// An image without the data of its largest file, but with its indirect block: so that a run has fewer calls.
-fn without_data(alloc: Global, image: &[u8]) -> Result<Vec<u8>, Fail> {
-    if image.len() != 131072 {
-        return Err("image".into());
-    }
-    let mut files = Vec::from_slice(alloc, &image[..36864])?;
-    files.resize(86016, 0)?;
-    files.extend_from_slice(&image[86016..87040])?;
-    files.resize(131072, 0)?;
-    Ok(files)
 }
 
 /// Whether each block is that of an image, or gone.
@@ -58,6 +47,7 @@ fn has_blocks<R: Reduces>(volume: &mut Volume<AnyPhase, R>, image: &[u8]) -> Res
 }
 
 /// Settles and saves a volume, and goes on without boundary 2. It tells when the call that fails was made.
+#[tactic(auto, using(crate::proofs::ReadyLemmas::stays_ready))]
 fn go_on_sealed<R: Reduces>(
     rt: &impl Abort,
     alloc: Global,
@@ -96,7 +86,7 @@ fn come(rt: &impl Abort, alloc: Global, image: &[u8], call: u64) -> Result<Came,
 #[test]
 fn each_call_of_a_regroup(rt: HostRuntime) -> Result<(), Fail> {
     let alloc = rt.alloc();
-    let files = without_data(alloc, &image(alloc)?)?;
+    let files = image(alloc)?;
     // the last call before
     let mut last = 0u64;
     for bit in 0..12u32 {

@@ -1,5 +1,5 @@
 // Going on without lost boundaries, on the volume F over a rack of the boundaries in use. The file of inode 5 has its home on boundary 2.
-#![tactic(auto, using(crate::proofs::ReadyLemmas::stays_ready))]
+#![tactic(auto)]
 
 ghost use Rattle.std.specs.Prelude.{IfOk};
 ghost use Rattle.dg_volume.specs.Volumes.{IsWell, any_phase};
@@ -23,6 +23,7 @@ const FIRST: RegroupAnswer = RegroupAnswer::Regrouped {
 };
 
 /// A boundary that was taken out of use keeps its number, and no member of it is there.
+#[tactic(auto, using(crate::proofs::ReadyLemmas::stays_ready))]
 fn check_out_of_use<R: Reduces>(
     rt: &impl Abort,
     alloc: Global,
@@ -100,6 +101,20 @@ fn lose_others<R: Reduces>(
     Ok(())
 }
 
+/// Settles a volume, and loses one boundary after another.
+fn lose_all<R: Reduces>(
+    rt: &impl Abort,
+    alloc: Global,
+    volume: &mut Volume<AnyPhase, R>,
+) -> Result<(), Fail>
+    requires { IsReady any_phase R.Rack R.boundaries volume.old }
+    ensures { IfOk result (λ done. IsWell any_phase R.Rack volume.new) }
+{
+    settle(alloc, volume)?;
+    lose_first(rt, alloc, volume)?;
+    lose_others(rt, alloc, volume)
+}
+
 /// A plain rack keeps no checkpoint, so a volume with a boundary out of use isn't saved.
 fn check_not_saved<R: Checkpoint>(
     rt: &impl Abort,
@@ -115,23 +130,18 @@ fn check_not_saved<R: Checkpoint>(
     Ok(())
 }
 
-/// A plain rack has no disks, of a boundary in use and of another one.
-fn check_no_disks<R: Disks>(
-    rt: &impl Abort,
-    volume: &mut Volume<AnyPhase, R>,
-    boundary: u32,
-) -> Result<(), Fail>
+/// A plain rack has no disks, so none of a boundary that isn't in use.
+fn check_no_disks<R: Disks>(rt: &impl Abort, volume: &mut Volume<AnyPhase, R>) -> Result<(), Fail>
     requires { IsWell any_phase R.Rack volume.old }
-    ensures { IsWell any_phase R.Rack volume.new }
 {
     if volume.disks().is_some() {
         return Err("disks".into());
     }
-    assert_eq!(rt; volume.drop_disk(boundary, 0), DropDiskAnswer::Plain);
+    assert_eq!(rt; volume.drop_disk(2, 0), DropDiskAnswer::Plain);
     if volume.disks().is_some() {
         return Err("disks".into());
     }
-    assert_eq!(rt; volume.mend(boundary, 0), MendDiskAnswer::Plain);
+    assert_eq!(rt; volume.mend(2, 0), MendDiskAnswer::Plain);
     Ok(())
 }
 
@@ -144,12 +154,9 @@ fn losses_one_after_another(rt: HostRuntime) -> Result<(), Fail> {
         shape_of(4, 64, 2)?,
         &image(alloc)?,
     )?;
-    settle(alloc, &mut volume)?;
-    lose_first(&rt, alloc, &mut volume)?;
-    lose_others(&rt, alloc, &mut volume)?;
+    lose_all(&rt, alloc, &mut volume)?;
     check_not_saved(&rt, alloc, &mut volume)?;
-    check_no_disks(&rt, &mut volume, 1)?;
-    check_no_disks(&rt, &mut volume, 2)
+    check_no_disks(&rt, &mut volume)
 }
 
 /// The volume is in a phase, and loose once so many lost boundaries were taken out of use.
@@ -162,48 +169,90 @@ fn check_phases<R: Reduces>(
 ) -> Result<(), Fail>
     requires { IsReady any_phase R.Rack R.boundaries volume.old }
 {
-    assert_eq!(rt;
-        (volume.phase(), volume.lost().count_ones()),
-        (phase, count)
-    );
+    assert_eq!(rt; volume.phase(), phase);
+    assert_eq!(rt; volume.lost().count_ones(), count);
     let RegroupAnswer::Regrouped { boundaries, .. } = go_on(alloc, volume)? else {
         return Err("answer".into());
     };
     assert_eq!(rt; boundaries, count);
-    assert_eq!(rt; (volume.phase(), volume.lost()), (Phase::Loose, 0));
+    assert_eq!(rt; volume.phase(), Phase::Loose);
+    assert_eq!(rt; volume.lost(), 0);
     Ok(())
 }
 
-#[test]
-fn a_loose_and_a_settled_volume(rt: HostRuntime) -> Result<(), Fail> {
-    let alloc = rt.alloc();
-    let shape = shape_of(4, 64, 2)?;
-    let files = image(alloc)?;
-    let mut volume = up_live(alloc, rack(alloc, &[])?, shape, &files)?;
-    assert!(rt; lose(&mut volume, 2));
-    check_phases(&rt, alloc, &mut volume, Phase::Loose, 1)?;
-    let mut volume = up_live(alloc, rack(alloc, &[])?, shape, &files)?;
-    settle(alloc, &mut volume)?;
-    assert!(rt; lose(&mut volume, 0) && lose(&mut volume, 2));
-    check_phases(&rt, alloc, &mut volume, Phase::Settled, 2)
+/// Of a loose volume one boundary is lost.
+fn lose_loose<R: Reduces>(
+    rt: &impl Abort,
+    alloc: Global,
+    volume: &mut Volume<AnyPhase, R>,
+) -> Result<(), Fail>
+    requires { IsReady any_phase R.Rack R.boundaries volume.old }
+{
+    assert!(rt; lose(volume, 2));
+    check_phases(rt, alloc, volume, Phase::Loose, 1)
 }
 
-/// Writes the superblock, an indirect block and the inodes.
-fn put_three<R: Reduces>(
+#[test]
+fn a_loose_volume(rt: HostRuntime) -> Result<(), Fail> {
+    let alloc = rt.alloc();
+    let below = rack(alloc, &[])?;
+    let mut volume = up_live(alloc, below, shape_of(4, 64, 2)?, &image(alloc)?)?;
+    lose_loose(&rt, alloc, &mut volume)
+}
+
+/// Of a settled volume two boundaries are lost.
+fn lose_settled<R: Reduces>(
+    rt: &impl Abort,
+    alloc: Global,
+    volume: &mut Volume<AnyPhase, R>,
+) -> Result<(), Fail>
+    requires { IsReady any_phase R.Rack R.boundaries volume.old }
+{
+    settle(alloc, volume)?;
+    assert!(rt; lose(volume, 0));
+    assert!(rt; lose(volume, 2));
+    check_phases(rt, alloc, volume, Phase::Settled, 2)
+}
+
+#[test]
+fn a_settled_volume(rt: HostRuntime) -> Result<(), Fail> {
+    let alloc = rt.alloc();
+    let below = rack(alloc, &[])?;
+    let mut volume = up_live(alloc, below, shape_of(4, 64, 2)?, &image(alloc)?)?;
+    lose_settled(&rt, alloc, &mut volume)
+}
+
+/// Writes a block as it is in an image.
+fn put_of<R: Reduces>(
+    alloc: Global,
+    volume: &mut Volume<AnyPhase, R>,
+    image: &[u8],
+    block: u32,
+) -> Result<(), Fail>
+    requires { IsReady any_phase R.Rack R.boundaries volume.old }
+    ensures { IfOk result (λ done. IsReady any_phase R.Rack R.boundaries volume.new) }
+{
+    if image.len() != 131072 || block >= 128 {
+        return Err("block".into());
+    }
+    let start = block as usize * 1024;
+    put(alloc, volume, block, &image[start..start + 1024])
+}
+
+/// Writes the superblock, an indirect block and the inodes, by which the volume is worn.
+fn wear<R: Reduces>(
+    rt: &impl Abort,
     alloc: Global,
     volume: &mut Volume<AnyPhase, R>,
     image: &[u8],
 ) -> Result<(), Fail>
     requires { IsReady any_phase R.Rack R.boundaries volume.old }
-    ensures { IfOk result (λ done. IsReady any_phase R.Rack R.boundaries volume.new) }
 {
-    if image.len() != 131072 {
-        return Err("image".into());
-    }
-    put(alloc, volume, 8, &image[8192..9216])?;
-    put(alloc, volume, 9, &image[9216..10240])?;
-    put(alloc, volume, 84, &image[86016..87040])?;
-    put(alloc, volume, 28, &image[28672..29696])
+    put_of(alloc, volume, image, 8)?;
+    put_of(alloc, volume, image, 9)?;
+    put_of(alloc, volume, image, 84)?;
+    put_of(alloc, volume, image, 28)?;
+    check_phases(rt, alloc, volume, Phase::Worn, 1)
 }
 
 // Of the calls from 8 on, block 84 is written by 13 and 14, and read by 17, and by 18 where that fails.
@@ -212,6 +261,5 @@ fn a_worn_volume(rt: HostRuntime) -> Result<(), Fail> {
     let alloc = rt.alloc();
     let below = rack(alloc, &[17, 18])?;
     let mut volume = up_live(alloc, below, shape_of(4, 64, 1)?, b"")?;
-    put_three(alloc, &mut volume, &image(alloc)?)?;
-    check_phases(&rt, alloc, &mut volume, Phase::Worn, 1)
+    wear(&rt, alloc, &mut volume, &image(alloc)?)
 }

