@@ -4,6 +4,8 @@
 #[cfg(test)]
 mod calls;
 #[cfg(test)]
+mod checkpoint_faults;
+#[cfg(test)]
 mod regroup_faults;
 #[cfg(test)]
 mod regroup_tests;
