@@ -12,6 +12,7 @@ use Rattle.dg_model.specs.declared.shapes.Shape.{Shape}
 use Rattle.dg_model.proofs.RunLaws.{run_more}
 use Rattle.dg_promise.specs.Chains.{ReadsInRun}
 use Rattle.dg_promise.specs.Promises.{AreTold, FewLost, IsAsPromised, LosesNone}
+use Rattle.dg_promise.specs.Readings.{ReadsAfter}
 
 -- the states around one of the events
 pub record SplitsAt (Known : Type 0) (old : State) (front : List Event) (event : Event) (rest : List Event) (replies : List Reply) (last : State) : Type 0 where
@@ -56,12 +57,13 @@ split_at Known old (e ∷ front) event rest replies last run =
     }
 
 -- a reading in the middle of a run, by what every run up to there promises
-pub reads_in_run : (before : Counts) (shape : Shape) (front : List Event) (path : List ℕ) (rest : List Event) (replies : List Reply) (last : State)
-    → ((earlier : List Reply) (old : State) (reply : Reply) (new : State) → Trace AreTold before (Array shape ∷ front) (Done ∷ earlier) old → old.phase ≡ Settled → FewLost old → LosesNone old new
+pub reads_after : (Led : List Reply → State → Type 0) (first : State) (front : List Event) (path : List ℕ) (rest : List Event) (replies : List Reply) (last : State)
+    → ((earlier : List Reply) (old : State) → Run AreTold first front earlier old → Led earlier old)
+    → ((earlier : List Reply) (old : State) (reply : Reply) (new : State) → Run AreTold first front earlier old → old.phase ≡ Settled → FewLost old → LosesNone old new
     → Step AreTold old (Cat path) reply new → IsAsPromised old path reply)
-    → Trace AreTold before (Array shape ∷ (front ++ Cat path ∷ rest)) (Done ∷ replies) last → ReadsInRun before shape front path rest replies last
-reads_in_run before shape front path rest replies last promises (blank, made, run) =
-    let split = split_at AreTold blank front (Cat path) rest replies last run in
+    → Run AreTold first (front ++ Cat path ∷ rest) replies last → ReadsAfter Led path rest replies last
+reads_after Led first front path rest replies last lead promises run =
+    let split = split_at AreTold first front (Cat path) rest replies last run in
     record {
       old = split.before;
       new = split.after;
@@ -69,8 +71,16 @@ reads_in_run before shape front path rest replies last promises (blank, made, ru
       earlier = split.earlier;
       later = split.later;
       replies_are = split.replies_are;
-      led = (blank, made, split.led);
+      led = lead split.earlier split.before split.led;
       step = split.step;
       on = split.on;
-      promised = λ settled few none. promises split.earlier split.before split.reply split.after (blank, made, split.led) settled few none split.step;
+      promised = λ settled few none. promises split.earlier split.before split.reply split.after split.led settled few none split.step;
     }
+
+pub reads_in_run : (before : Counts) (shape : Shape) (front : List Event) (path : List ℕ) (rest : List Event) (replies : List Reply) (last : State)
+    → ((earlier : List Reply) (old : State) (reply : Reply) (new : State) → Trace AreTold before (Array shape ∷ front) (Done ∷ earlier) old → old.phase ≡ Settled → FewLost old → LosesNone old new
+    → Step AreTold old (Cat path) reply new → IsAsPromised old path reply)
+    → Trace AreTold before (Array shape ∷ (front ++ Cat path ∷ rest)) (Done ∷ replies) last → ReadsInRun before shape front path rest replies last
+reads_in_run before shape front path rest replies last promises (blank, made, run) =
+    reads_after (λ earlier old. Trace AreTold before (Array shape ∷ front) (Done ∷ earlier) old) blank front path rest replies last
+    (λ earlier old led. (blank, made, led)) (λ earlier old reply new led. promises earlier old reply new (blank, made, led)) run

@@ -1,5 +1,5 @@
 -- After all moves each block stands on just its targets.
-use Rattle.std.proofs.Common.{◌≡◌, ◌≢◌, ◌∙◌, ◌&&◌, ◌==◌, ℕ, zero, suc, ◌+◌, ◌<◌, ◌≤◌, inl, inr, Bool, true, false, cond, not, List, [], ◌∷◌, ◌++◌, length, map, Option, Some, None, refl, sym, ap, subst, arith}
+use Rattle.std.proofs.Common.{◌≡◌, ◌≢◌, ◌∙◌, ◌&&◌, ◌==◌, ℕ, zero, suc, ◌+◌, ◌<◌, ◌≤◌, inl, inr, Bool, true, false, cond, not, List, [], ◌∷◌, ◌++◌, length, length-append, map, Option, Some, None, refl, sym, ap, subst, arith}
 use Rattle.std.specs.Prelude.{Contains, find, nat_le, nat_lt}
 use Rattle.std.specs.List.{filter, flat_map, range_with_len}
 use Rattle.std.proofs.lemmas.Bool.{cases_Bool, cases_eq, cases_lt, leb-true}
@@ -17,7 +17,7 @@ use Rattle.dg_model.proofs.MissingLaws.{missing_none, missing_wanted, not_missin
 use Rattle.dg_model.proofs.PutLaws.{IsTable-put, IsTable-without, sites_put_here, sites_put_other, sites_without_here, sites_without_other}
 use Rattle.dg_model.proofs.RoomLaws.{two_steps_enough}
 use Rattle.dg_model.proofs.SiteLists.{apart_test, count_on-push, one_if, same_test, zero_if}
-use Rattle.dg_model.proofs.SpareSteps.{drops, has_off, spare_push}
+use Rattle.dg_model.proofs.SpareSteps.{drops, has_off, has_some, spare_push}
 use Rattle.dg_model.proofs.SumLaws.{count_one_less, count_same, sum_one_less, sum_same}
 use Rattle.dg_promise.proofs.PlanLaws.{in_filter}
 use Rattle.dg_promise.proofs.SlotLaws.{free_is, free_low}
@@ -173,10 +173,6 @@ tidied targets old ok =
 
 -- ---- a placement is met
 
-has_last : (xs : List Site) (x : Site) → has_site (xs ++ x ∷ []) ≡ true
-has_last [] x = refl
-has_last (y ∷ ys) x = refl
-
 record IsMet (targets : ℕ → ℕ → Bool) (old new : Table) : Type 0 where
   leaves : Leaves targets old new
   tidy : IsTidy targets new
@@ -223,7 +219,7 @@ met targets old b s ok are tidy open_at =
         shape = one.shape;
         written = λ c. elim (cases_eq c b) [
           | inl at ↦ subst (λ (d : ℕ). has_site (sites_in new d) ≡ has_site (sites_in old d)) (sym at)
-              (one.written ∙ ap has_site row ∙ has_last (sites_in old b) (copied old s) ∙ sym (are.written b s wanted))
+              (one.written ∙ ap has_site row ∙ has_some (sites_in old b ++ copied old s ∷ []) (omega (arith, length-append (sites_in old b) (copied old s ∷ []))) ∙ sym (are.written b s wanted))
           | inr other ↦ ap has_site (others c other)
         ];
       };

@@ -17,7 +17,7 @@ use Rattle.dg_model.specs.declared.phases.Phase.{Phase}
 use Rattle.dg_model.specs.declared.phases.Phase.TheVariants.{Loose, Settled, Worn}
 use Rattle.dg_model.specs.declared.replies.Reply.{Reply}
 use Rattle.dg_model.specs.declared.replies.Reply.TheVariants.{Degraded, Done, Range, Settled as SettledReply}
-use Rattle.dg_promise.proofs.ChainLaws.{split_at}
+use Rattle.dg_promise.proofs.ChainLaws.{reads_after}
 use Rattle.dg_promise.proofs.Effects.{effect_of}
 use Rattle.dg_promise.proofs.SteadyLaws.{StepsStaySteady, run_steady, same_l}
 use Rattle.dg_promise.specs.Promises.{AreTold, FewLost, IsAsPromised, LosesNone}
@@ -60,20 +60,11 @@ module _ (stays : StepsStaySteady) where
   pub reads_from : CatsAreKept → (first : State) (front : List Event) (path : List ℕ) (rest : List Event) (replies : List Reply) (last : State) → IsSteady first
       → All (FitsBlock first.table.shape.l) front → Run AreTold first (front ++ Cat path ∷ rest) replies last → ReadsFrom first front path rest replies last
   reads_from kept first front path rest replies last steady fit run =
-      let split = split_at AreTold first front (Cat path) rest replies last run in
-      let before = run_steady stays first.table.shape.l first front split.earlier split.before refl fit steady split.led in
-      record {
-        old = split.before;
-        new = split.after;
-        reply = split.reply;
-        earlier = split.earlier;
-        later = split.later;
-        replies_are = split.replies_are;
-        led = split.led;
-        step = split.step;
-        on = split.on;
-        promised = λ settled few none. kept split.before path split.reply split.after before.sites before.size (before.settled settled) few none split.step;
-      }
+      reads_after (λ earlier old. Run AreTold first front earlier old) first front path rest replies last (λ earlier old led. led)
+      (λ earlier old reply new led settled few none step.
+          let before = run_steady stays first.table.shape.l first front earlier old refl fit steady led in
+          kept old path reply new before.sites before.size (before.settled settled) few none step)
+      run
 
 -- ---- between a settle and the next write
 

@@ -11,19 +11,23 @@ use Rattle.dg_model.specs.declared.replies.Reply.{Reply}
 use Rattle.dg_model.specs.declared.replies.Reply.TheVariants.{Done}
 use Rattle.dg_promise.specs.Promises.{AreTold, FewLost, IsAsPromised, LosesNone}
 
--- A run whose events are some first ones, the reading of a path, and the rest: the states before and after the reading, and its reply, which
--- is the promised one where the array is settled then, few boundaries are lost, and none becomes lost.
-pub record ReadsFrom (first : State) (front : List Event) (path : List ℕ) (rest : List Event) (replies : List Reply) (last : State) : Type 0 where
+-- The reading of a path in a run, after first events that led to a state with some replies, and before the rest: the states before and after the
+-- reading, and its reply, which is the promised one where the array is settled then, few boundaries are lost, and none becomes lost.
+pub record ReadsAfter (Led : List Reply → State → Type 0) (path : List ℕ) (rest : List Event) (replies : List Reply) (last : State) : Type 0 where
   pub old : State
   pub new : State
   pub reply : Reply
   pub earlier : List Reply
   pub later : List Reply
   pub replies_are : replies ≡ earlier ++ reply ∷ later
-  pub led : Run AreTold first front earlier old
+  pub led : Led earlier old
   pub step : Step AreTold old (Cat path) reply new
   pub on : Run AreTold new rest later last
   pub promised : old.phase ≡ Settled → FewLost old → LosesNone old new → IsAsPromised old path reply
+
+-- so in a run from a state
+abbrev pub ReadsFrom : State → List Event → List ℕ → List Event → List Reply → State → Type 0
+ReadsFrom first front path rest replies last = ReadsAfter (λ earlier old. Run AreTold first front earlier old) path rest replies last
 
 -- the event wrote a block, or it may have taken boundaries out of use
 abbrev pub IsChange : Event → Reply → Type 0
