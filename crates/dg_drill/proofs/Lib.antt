@@ -5,7 +5,6 @@ mod Counts
 mod DrillLaws
 mod GivenLaws
 mod HomeSteps
-mod Lined
 mod LossSteps
 mod MadeLaws
 mod MemberSteps

@@ -6,7 +6,7 @@ use Rattle.std.specs.List.{concat}
 use Rattle.std.proofs.lemmas.List.FromFn.{length-map-range_with_len, map-range_with_len_more}
 use Rattle.dg_drill.proofs.ChainLaws.{led_more, led_none, steps_of}
 use Rattle.dg_drill.proofs.Comparing.{whole_is}
-use Rattle.dg_drill.proofs.Lined.{in_lines}
+use Rattle.dg_model.proofs.Lined.{in_lines}
 use Rattle.dg_drill.proofs.Counts.{bytes_more, bytes_push, given_more, given_push, unavailable_push}
 use Rattle.dg_drill.specs.Chains.{HasRead, HasReadAll, LedTo}
 use Rattle.dg_drill.specs.Comparisons.{Compared, ComparedPart, fresh, is_whole}

@@ -118,7 +118,8 @@ first_below table b s some is = elim (cases_lt (used_in table (b % table.shape.b
   | inr full ↦ (is.other full).within
 ]
 
-has_last : (xs : List Site) (x : Site) → has_site (xs ++ x ∷ []) ≡ true
+-- a list of sites with one more has a site
+pub has_last : (xs : List Site) (x : Site) → has_site (xs ++ x ∷ []) ≡ true
 has_last [] x = refl
 has_last (y ∷ ys) x = refl
 

@@ -98,7 +98,7 @@ pub ascending_to : (homes : List Home) → Ascending homes → Ascend homes
 ascending_to [] up = λ k low. absurd (omega (arith, low))
 ascending_to (home ∷ homes) up = to_ascend home homes up
 
-from_lower : (n m : ℕ) (homes : List Home) → n ≤ m → AscendFrom m homes → AscendFrom n homes
+pub from_lower : (n m : ℕ) (homes : List Home) → n ≤ m → AscendFrom m homes → AscendFrom n homes
 from_lower n m [] less up = tt
 from_lower n m (home ∷ homes) less up = (omega (arith, less, up.0), up.1)
 

@@ -42,3 +42,4 @@ pub mod TrimLaws
 mod VerdictRows
 mod WriteRows
 pub mod LineLaws
+pub mod Lined

@@ -4,14 +4,14 @@ use Rattle.std.specs.Prelude.{Some, None}
 use Rattle.std.proofs.lemmas.Bool.{cases_eq, cases_lt}
 use Rattle.std.proofs.lemmas.List.{append_assoc}
 use Rattle.dg_model.specs.Members.{is_lost}
-use Rattle.dg_model.specs.Moves.{Action, AreTargets, IsCutByLoss, IsCutOff, IsTidy, all_done, copy_to, count_upto, ending, give_ups, is_missing, meeting, missing, missing_in, moved, moves, next_placement, off_target, round, rounds, spare, sum_upto, tidying}
+use Rattle.dg_model.specs.Moves.{Action, IsCutByLoss, IsCutOff, IsTidy, all_done, copy_to, count_upto, ending, give_ups, is_missing, meeting, missing, missing_in, moved, moves, next_placement, off_target, round, rounds, spare, sum_upto, tidying}
 use Rattle.dg_model.specs.Plans.{Placement}
-use Rattle.dg_model.specs.Sites.{has_site, is_gone}
+use Rattle.dg_model.specs.Sites.{is_gone}
 use Rattle.dg_model.specs.Tables.{Table, sites_in}
 use Rattle.dg_model.specs.declared.members.MemberState.{MemberState}
 use Rattle.dg_model.specs.declared.shapes.Shape.{Shape}
 use Rattle.dg_model.proofs.ActionLists.{all_both, missing_length}
-use Rattle.dg_model.proofs.SumLaws.{count_one_less, count_same, sum_one_less, sum_same}
+use Rattle.dg_model.proofs.SumLaws.{count_one_less, count_same, sum_one_less}
 use Rattle.dg_move.specs.Turns.{IsNext, IsTurned, Meets, move_to}
 use Rattle.dg_move.proofs.ActLaws.{meeting_is, tidying_none}
 
@@ -238,21 +238,3 @@ module _ (targets : ℕ → ℕ → Bool) where
     | inl here ↦ subst (λ (k : ℕ). spare (targets k) (sites_in new k) ≡ []) (sym here) meets.none
     | inr apart ↦ ap (spare (targets c)) (meets.others c apart) ∙ tidy c (subst (λ (s : Shape). c < s.n) shape within)
   ]
-
-  -- targets of one table are those of another with the same numbers and the same written blocks
-  pub targets_stay : (old new : Table) → new.shape ≡ old.shape → ((b : ℕ) → has_site (sites_in new b) ≡ has_site (sites_in old b)) → AreTargets targets old → AreTargets targets new
-  targets_stay old new shape written are = record {
-    some = λ b within has.
-        let t = are.some b (subst (λ (s : Shape). b < s.n) shape within) (sym (written b) ∙ has) in
-        (t.0, subst (λ (s : Shape). t.0 < s.b) (sym shape) t.1, t.2);
-    written = λ b t wanted. written b ∙ are.written b t wanted;
-    within = λ b t wanted. subst (λ (s : Shape). t < s.b) (sym shape) (are.within b t wanted);
-    most = λ t within. subst (λ (s : Shape). count_upto s.n (λ b. targets b t) ≤ s.k) (sym shape) (are.most t (subst (λ (s : Shape). t < s.b) shape within));
-  }
-
-  -- the same placements are missing
-  pub missing_stay : (old new : Table) → new.shape ≡ old.shape → ((b t : ℕ) → is_missing targets new b t ≡ is_missing targets old b t) → missing_in targets new ≡ missing_in targets old
-  missing_stay old new shape same =
-      ap (λ (s : Shape). sum_upto s.n (λ c. count_upto s.b (is_missing targets new c))) shape
-      ∙ sum_same (λ c. count_upto old.shape.b (is_missing targets new c)) (λ c. count_upto old.shape.b (is_missing targets old c)) old.shape.n
-      (λ c low. count_same old.shape.b (is_missing targets old c) (is_missing targets new c) (same c))

@@ -70,8 +70,8 @@ module _ {S T E : Type 0} (rack : Ghosts S) (call : RackCall) (q : ℕ) (on : me
   }
 
   -- a disk comes back only in a group that is made anew
-  pub made_grouped : ((s j : ℕ) → IsNoBlankAt s call → out_of (slice_get old.groups s) j ≡ true → out_of (slice_get new.groups s) j ≡ true) → GroupedMade rack old (call ∷ []) new
-  made_grouped stays = record {
+  pub made_grouped : new.width ≡ old.width → ((s j : ℕ) → IsNoBlankAt s call → out_of (slice_get old.groups s) j ≡ true → out_of (slice_get new.groups s) j ≡ true) → GroupedMade rack old (call ∷ []) new
+  made_grouped width stays = record {
     after = record {
       same_rack = steps.same_rack;
       steady_on = (λ h. h, λ h. h);
@@ -88,6 +88,7 @@ module _ {S T E : Type 0} (rack : Ghosts S) (call : RackCall) (q : ℕ) (on : me
         others = λ s each. steps.apart s (λ e. each.0 (ap (λ (r : ℕ). r / 2) on ∙ sym e));
       };
     };
+    shaped = record { width = width; groups = steps.count };
   }
 
   pub blank_back : (s j : ℕ) → q / 2 ≢ s → out_of (slice_get old.groups s) j ≡ true → out_of (slice_get new.groups s) j ≡ true

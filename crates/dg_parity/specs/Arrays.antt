@@ -187,13 +187,14 @@ grouped_words rack = record {
   made = λ old calls new. Unit {0};
 }
 
-pub record GroupedMade {R : Type 0} (rack : Ghosts R) (old : Grouped R) (calls : List RackCall) (new : Grouped R) : Type 0 where
-  pub after : After (grouped_words rack) calls old new
-
 -- how many groups it has, and how many disks each of them, is for good
 pub record IsShaped {R : Type 0} (old new : Grouped R) : Type 0 where
   pub width : new.width ≡ old.width
   pub groups : length new.groups ≡ length old.groups
+
+pub record GroupedMade {R : Type 0} (rack : Ghosts R) (old : Grouped R) (calls : List RackCall) (new : Grouped R) : Type 0 where
+  pub after : After (grouped_words rack) calls old new
+  pub shaped : IsShaped old new
 
 -- what holds of it between calls
 pub record IsHeld {R : Type 0} (rack : Ghosts R) (width : ℕ) (groups : List Group) (now : R) : Type 0 where

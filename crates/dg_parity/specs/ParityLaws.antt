@@ -1,15 +1,17 @@
 -- Calls of a rack that is plain or of groups leave what each of them leaves.
-use Rattle.std.specs.Prelude.{◌≡◌, ◌++◌, ℕ, Bool, true, List, [], Option, Result, IsSome}
-use Rattle.std.proofs.Common.{◌⊎◌, inl, inr}
+use Rattle.std.specs.Prelude.{◌≡◌, ◌++◌, ℕ, Bool, true, List, [], Option, Some, Result, IsSome}
+use Rattle.std.proofs.Common.{◌⊎◌, ◌∙◌, ap, inl, inr, refl}
 use Rattle.dg_io.specs.Disks.{no_disks}
 use Rattle.dg_io.specs.Kept.{HasAnother, IsNothing, Kept, KeepsRest}
 use Rattle.dg_io.specs.MadeLaws.{disks_same}
+use Rattle.dg_io.specs.Makes.{Makes}
+use Rattle.dg_io.specs.Makes.Makes.{nothing, after}
 use Rattle.dg_io.specs.RackCalls.{RackCall}
 use Rattle.dg_io.specs.RackWords.{After, Leaves}
 use Rattle.dg_io.specs.declared.outside.Rack.{Ghosts}
 use Rattle.dg_parity.specs.ArrayLaws.{grouped_both, grouped_none}
 use Rattle.dg_parity.specs.Arrays.{Grouped, GroupedMade, grouped_words}
-use Rattle.dg_parity.specs.ParityRacks.{ParityMade, either, made_by, parity_keeps, parity_stands, parity_words}
+use Rattle.dg_parity.specs.ParityRacks.{IsShaped, ParityMade, either, groups_in, made_by, parity_keeps, parity_stands, parity_words, width_in}
 use Rattle.dg_parity.specs.declared.parity_racks.ParityRack.{ParityRack}
 use Rattle.dg_parity.specs.declared.parity_racks.ParityRack.TheVariants.{Plain, OfGroups}
 
@@ -125,3 +127,20 @@ pub parity_told : {R : Type 0} (bytes : R → ℕ → Option (List ℕ)) (stands
     → (grouped : Grouped R → ℕ → Option (List ℕ)) → (s : ParityRack R) (q : ℕ) → either tells (λ it r. IsSome (grouped it r)) s q → either stands (λ it r. true) s q ≡ true → IsSome (either bytes grouped s q)
 parity_told bytes stands tells law grouped (Plain s) q told stand = law s q told stand
 parity_told bytes stands tells law grouped (OfGroups s) q told stand = told
+
+-- ---- how many groups it has, and of how many disks, is for good
+
+shaped_by : {R : Type 0} (rack : Ghosts R) (a b : ParityRack R) (calls : List RackCall) → made_by rack a calls b → IsShaped a b
+shaped_by rack (Plain a) (Plain b) calls is = record { width = refl; groups = refl }
+shaped_by rack (Plain a) (OfGroups b) calls is = absurd is
+shaped_by rack (OfGroups a) (Plain b) calls is = absurd is
+shaped_by rack (OfGroups a) (OfGroups b) calls is = record { width = ap Some is.shaped.width; groups = is.shaped.groups }
+
+-- Whatever calls were made. `words` is what such a rack means as a rack.
+pub shape_stays : {R : Type 0} (rack : Ghosts R) (words : Ghosts (ParityRack R)) → ((a b : ParityRack R) (calls : List RackCall) → words.made a calls b → ParityMade rack a calls b)
+    → (may : RackCall → Type 0) (a b : ParityRack R) → Makes words may a b → IsShaped a b
+shape_stays rack words means may a b (nothing same) = record { width = ap width_in same; groups = ap groups_in same }
+shape_stays rack words means may a b (after {b = mid} first only) =
+    let was = shape_stays rack words means may a mid first in
+    let now = shaped_by rack mid b only.calls (means mid b only.calls only.made).by in
+    record { width = now.width ∙ was.width; groups = now.groups ∙ was.groups }

@@ -13,12 +13,13 @@ use Rattle.dg_model.specs.declared.shapes.Shape.{Shape}
 use Rattle.dg_model.specs.declared.sites.Site.{Site}
 use Rattle.dg_model.proofs.ActionLists.{all_both, missing_length, tidying_below, tidying_is, tidying_more}
 use Rattle.dg_model.proofs.ClaimSearch.{part_of, range_low}
-use Rattle.dg_model.proofs.MissingLaws.{missing_none, missing_wanted, not_missing, placed_from}
+use Rattle.dg_model.proofs.FirstSites.{has_last}
+use Rattle.dg_model.proofs.MissingLaws.{missing_none, missing_stay, missing_wanted, not_missing, placed_from, targets_stay}
 use Rattle.dg_model.proofs.PutLaws.{IsTable-put, IsTable-without, sites_put_here, sites_put_other, sites_without_here, sites_without_other}
 use Rattle.dg_model.proofs.RoomLaws.{two_steps_enough}
 use Rattle.dg_model.proofs.SiteLists.{apart_test, count_on-push, one_if, same_test, zero_if}
 use Rattle.dg_model.proofs.SpareSteps.{drops, has_off, spare_push}
-use Rattle.dg_model.proofs.SumLaws.{count_one_less, count_same, sum_one_less, sum_same}
+use Rattle.dg_model.proofs.SumLaws.{count_one_less, count_same, sum_one_less}
 use Rattle.dg_promise.proofs.PlanLaws.{in_filter}
 use Rattle.dg_promise.proofs.SlotLaws.{free_is, free_low}
 
@@ -140,22 +141,6 @@ pub record Leaves (targets : ℕ → ℕ → Bool) (old new : Table) : Type 0 wh
   pub shape : new.shape ≡ old.shape
   pub written : (c : ℕ) → has_site (sites_in new c) ≡ has_site (sites_in old c)
 
-tidied_missing : (targets : ℕ → ℕ → Bool) (old new : Table) → new.shape ≡ old.shape → ((b t : ℕ) → is_missing targets new b t ≡ is_missing targets old b t) → missing_in targets new ≡ missing_in targets old
-tidied_missing targets old new shape same =
-    ap (λ (s : Shape). sum_upto s.n (λ c. count_upto s.b (is_missing targets new c))) shape
-    ∙ sum_same (λ c. count_upto old.shape.b (is_missing targets new c)) (λ c. count_upto old.shape.b (is_missing targets old c)) old.shape.n
-    (λ c low. count_same old.shape.b (is_missing targets old c) (is_missing targets new c) (same c))
-
-targets_stay : (targets : ℕ → ℕ → Bool) (old new : Table) → new.shape ≡ old.shape → ((b : ℕ) → has_site (sites_in new b) ≡ has_site (sites_in old b)) → AreTargets targets old → AreTargets targets new
-targets_stay targets old new shape written are = record {
-  some = λ b within has.
-      let t = are.some b (subst (λ (s : Shape). b < s.n) shape within) (sym (written b) ∙ has) in
-      (t.0, subst (λ (s : Shape). t.0 < s.b) (sym shape) t.1, t.2);
-  written = λ b t wanted. written b ∙ are.written b t wanted;
-  within = λ b t wanted. subst (λ (s : Shape). t < s.b) (sym shape) (are.within b t wanted);
-  most = λ t within. subst (λ (s : Shape). count_upto s.n (λ b. targets b t) ≤ s.k) (sym shape) (are.most t (subst (λ (s : Shape). t < s.b) shape within));
-}
-
 record IsTidyTable (targets : ℕ → ℕ → Bool) (old new : Table) : Type 0 where
   leaves : Leaves targets old new
   tidy : IsTidy targets new
@@ -167,15 +152,11 @@ tidied targets old ok =
     subst (λ (actions : List Action). IsTidyTable targets old (all_done old actions)) (sym (tidying_is targets old)) (record {
       leaves = record { ok = all.ok; shape = all.shape; written = all.written };
       tidy = λ b low. all.tidy b (subst (λ (s : Shape). b < s.n) all.shape low);
-      same = tidied_missing targets old (all_done old (tidying_below targets old old.shape.n)) all.shape
+      same = missing_stay targets old (all_done old (tidying_below targets old old.shape.n)) all.shape
           (λ b t. missing_same targets old (all_done old (tidying_below targets old old.shape.n)) b t (λ wanted. all.kept b t wanted));
     })
 
 -- ---- a placement is met
-
-has_last : (xs : List Site) (x : Site) → has_site (xs ++ x ∷ []) ≡ true
-has_last [] x = refl
-has_last (y ∷ ys) x = refl
 
 record IsMet (targets : ℕ → ℕ → Bool) (old new : Table) : Type 0 where
   leaves : Leaves targets old new

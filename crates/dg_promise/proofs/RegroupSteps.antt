@@ -17,7 +17,7 @@ use Rattle.dg_model.specs.Marks.{is_marked}
 use Rattle.dg_model.specs.States.{Counts, State, is_cut}
 use Rattle.dg_model.specs.Tables.{IsTable}
 use Rattle.dg_model.specs.declared.homes.Home.{Home}
-use Rattle.dg_model.proofs.HomeLaws.{AscendFrom, Ascending, ascending_from, ascending_to}
+use Rattle.dg_model.proofs.HomeLaws.{AscendFrom, Ascending, ascending_from, ascending_to, from_lower}
 use Rattle.dg_model.proofs.RegroupLaws.{left_ascend, left_is_table}
 use Rattle.ufs_frames.specs.Frames.{IsLocal}
 use Rattle.ufs_model.specs.Paths.{cat_of}
@@ -40,10 +40,6 @@ left_inode left copies home = on (is_left left home.boundary)
     on : (b : Bool) → IfSome (cond b (moved_home left home.inode (Some home.boundary)) (moved_home left home.inode (home_of copies home.inode))) (λ other. other.inode ≡ home.inode)
     on true = moved_inode left home.inode (Some home.boundary)
     on false = moved_inode left home.inode (home_of copies home.inode)
-
-from_lower : (n m : ℕ) (homes : List Home) → n ≤ m → AscendFrom m homes → AscendFrom n homes
-from_lower n m [] less up = tt
-from_lower n m (home ∷ homes) less up = (omega (arith, less, up.0), up.1)
 
 one_more : (n : ℕ) (home : Home) (rest : List Home) → n < home.inode → AscendFrom home.inode rest → (found : Option Home) → IfSome found (λ other. other.inode ≡ home.inode)
     → AscendFrom n (option_to_list found ++ rest)

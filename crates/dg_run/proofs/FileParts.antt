@@ -1,14 +1,14 @@
 -- A part of a file, or of a listing, was written.
-use Rattle.std.proofs.Common.{◌≡◌, ◌≤◌, ◌<◌, ℕ, zero, suc, List, [], ◌∷◌, ◌++◌, length, take, drop, refl, sym, ◌∙◌, ap, subst, arith, append_assoc, take-append-drop, inl, inr}
-use Rattle.std.specs.Prelude.{◌⊎◌, Option, All, codes}
+use Rattle.std.proofs.Common.{◌≡◌, ◌≤◌, ◌<◌, ℕ, List, [], ◌∷◌, ◌++◌, length, sym, ◌∙◌, ap, subst, arith, append_assoc}
+use Rattle.std.specs.Prelude.{Option, All, codes}
 use Rattle.std.specs.Fmt.{decimal}
 use Rattle.std.specs.List.{concat}
-use Rattle.std.proofs.lemmas.List.{append-nil, length-drop}
 use Rattle.std.proofs.lemmas.List.Folds.{concat-append}
-use Rattle.std.proofs.lemmas.Grind.{common_steps, flat_map-append}
+use Rattle.std.proofs.lemmas.Grind.{flat_map-append}
 use Rattle.dg_io.specs.Told.{Told, Took, TookPart}
 use Rattle.dg_io.specs.declared.outside.Rack.{Ghosts}
 use Rattle.dg_model.specs.Lists.{AreLines}
+use Rattle.dg_model.proofs.Lined.{in_lines}
 use Rattle.dg_model.specs.declared.events.Event.TheVariants.{Cat, Ls}
 use Rattle.dg_model.specs.declared.replies.Reply.TheVariants.{Given, Listed as ListedReply}
 use Rattle.dg_run.specs.declared.arrays.Array.{Array}
@@ -17,17 +17,10 @@ use Rattle.dg_text.specs.Replies.{bytes_line, entries_text, file_text, reply_lin
 use Rattle.dg_text.specs.ToldSteps.{took_both, took_part_after, took_part_of_more}
 use Rattle.ufs_model.specs.Listings.{Listed}
 use Rattle.dg_run.specs.Steps.{AnsweredPart, VolumeStepsTo}
-use Rattle.dg_run.proofs.Inputs.{All-head, All-one, All-tail}
-use Rattle.dg_run.proofs.Refusing.{le_or_lt}
+use Rattle.dg_run.proofs.Inputs.{All-head, All-tail}
 
 abbrev IsFull : ℕ → List ℕ → Type 0
 IsFull l line = length line ≡ l
-
--- these bytes in lines
-record Lined (l : ℕ) (bytes : List ℕ) : Type 0 where
-  lines : List (List ℕ)
-  are : AreLines l lines
-  whole : concat lines ≡ bytes
 
 more_are : (l : ℕ) (full more : List (List ℕ)) → 0 < l → All (IsFull l) full → AreLines l more → AreLines l (full ++ more)
 more_are l [] more some full are = are
@@ -35,32 +28,6 @@ more_are l (line ∷ []) [] some full are = let n : length line ≡ l = All-head
 more_are l (line ∷ []) (next ∷ more) some full are = (All-head (IsFull l) line [] full, are)
 more_are l (line ∷ next ∷ rest) more some full are =
     (All-head (IsFull l) line (next ∷ rest) full, more_are l (next ∷ rest) more some (All-tail (IsFull l) line (next ∷ rest) full) are)
-
-no_lines : (l : ℕ) → Lined l []
-no_lines l = record { lines = []; are = tt; whole = refl }
-
-one_line : (l : ℕ) (line : List ℕ) → 0 < length line → length line ≤ l → Lined l line
-one_line l line some within = record { lines = line ∷ []; are = (some, within); whole = append-nil line }
-
-line_first : (l : ℕ) (bytes : List ℕ) → 0 < l → l < length bytes → Lined l (drop l bytes) → Lined l bytes
-line_first l bytes some more rest =
-    let n : length (take l bytes) ≡ l = grind (arith, common_steps) in
-    record {
-      lines = take l bytes ∷ rest.lines;
-      are = more_are l (take l bytes ∷ []) rest.lines some (All-one (IsFull l) (take l bytes) n) rest.are;
-      whole = ap (λ (s : List ℕ). take l bytes ++ s) rest.whole ∙ take-append-drop l bytes;
-    }
-
-line_by : (l : ℕ) (bytes : List ℕ) → 0 < l → 0 < length bytes → Lined l (drop l bytes) → (length bytes ≤ l) ⊎ (l < length bytes) → Lined l bytes
-line_by l bytes some any rest (inl within) = one_line l bytes any within
-line_by l bytes some any rest (inr more) = line_first l bytes some more rest
-
-in_lines : (l fuel : ℕ) (bytes : List ℕ) → 0 < l → length bytes ≤ fuel → Lined l bytes
-in_lines l zero [] some n = no_lines l
-in_lines l zero (x ∷ xs) some n = absurd (omega arith)
-in_lines l (suc fuel) [] some n = no_lines l
-in_lines l (suc fuel) (x ∷ xs) some n =
-    line_by l (x ∷ xs) some (omega arith) (in_lines l fuel (drop l (x ∷ xs)) some (omega (arith, length-drop l (x ∷ xs)))) (le_or_lt (length (x ∷ xs)) l)
 
 -- a part of the lines of a file is a part of the file's reply
 part_of_file : (lines more : List (List ℕ)) (x y : Option (List ℕ)) → Told (TookPart (file_text lines)) x y → Told (TookPart (reply_line (Given (lines ++ more)))) x y

@@ -1,4 +1,3 @@
-mod Lined
 mod Opened
 mod Places
 mod Served

@@ -12,7 +12,7 @@ use Rattle.dg_model.specs.declared.events.Event.TheVariants.{Cat, Ls}
 use Rattle.dg_model.specs.declared.replies.Reply.{Reply}
 use Rattle.dg_model.specs.declared.replies.Reply.TheVariants.{Cut, Given, Listed as ListedReply, ListedCut}
 use Rattle.dg_model.specs.declared.shapes.Shape.{Shape}
-use Rattle.dg_saved.proofs.Lined.{in_lines}
+use Rattle.dg_model.proofs.Lined.{in_lines}
 use Rattle.dg_saved.specs.PathReplies.{IsPlain}
 use Rattle.dg_saved.specs.Serves.{Served, ServedPart, Steps}
 use Rattle.dg_saved.specs.Texts.{cat_text, gives_file, gives_listing, ls_text}

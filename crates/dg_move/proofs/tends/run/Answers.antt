@@ -2,12 +2,13 @@ use Rattle.std.proofs.Common.{◌≡◌, ◌+◌, arith, ap, refl, inl, inr, min
 use Rattle.std.specs.Prelude.{Some}
 use Rattle.std.proofs.lemmas.Bool.{both_ways}
 use Rattle.dg_model.specs.Moves.{IsCutOff, missing_in}
+use Rattle.dg_model.proofs.MissingLaws.{missing_stay, targets_stay}
 use Rattle.dg_plan.specs.Targets.{wants_of}
 use Rattle.dg_store.specs.Stores.{members_of, shape_of, table_of}
 use Rattle.dg_move.proofs.CallLaws.{copies_less, copies_more, copies_same}
 use Rattle.dg_move.proofs.StopLaws.{stopped_next}
 use Rattle.dg_move.proofs.StoreLaws.{moves_both, on_err, only_missing, only_moves, same_lost}
-use Rattle.dg_move.proofs.TurnLaws.{cut_failed, cut_next, cut_whole, met_less, missing_stay, targets_stay, tidy_more, turned_more, turned_none}
+use Rattle.dg_move.proofs.TurnLaws.{cut_failed, cut_next, cut_whole, met_less, tidy_more, turned_more, turned_none}
 use Rattle.dg_move.proofs.tends.run.Goals as goal
 
 pub turns-init : goal.turns-init

@@ -1,14 +1,14 @@
 use Rattle.std.proofs.Common.{◌≡◌, ◌+◌, arith, ap, sym, ◌∙◌, min}
 use Rattle.std.specs.Prelude.{Some}
 use Rattle.dg_model.specs.Moves.{IsCutByLoss, IsCutOff, IsTidy, missing_in}
-use Rattle.dg_model.proofs.MissingLaws.{placed_from}
+use Rattle.dg_model.proofs.MissingLaws.{placed_from, targets_stay}
 use Rattle.dg_plan.specs.Targets.{wants_of}
 use Rattle.dg_store.specs.Stores.{members_of, table_of}
 use Rattle.dg_move.specs.Stops.{StoppedAt}
 use Rattle.dg_move.specs.Turns.{IsTurned}
 use Rattle.dg_move.proofs.StopLaws.{stopped_same}
 use Rattle.dg_move.proofs.StoreLaws.{at_none, at_some, moves_none, on_err}
-use Rattle.dg_move.proofs.TurnLaws.{cut_same, loss_same, moved_none, moved_of, targets_stay}
+use Rattle.dg_move.proofs.TurnLaws.{cut_same, loss_same, moved_none, moved_of}
 use Rattle.dg_move.proofs.tends.tend.Goals.{else-rounds-eq0-via-then-rounds-eq0+else-left-gt0, else-rounds-eq0-via-else-rounds-eq0}
 use Rattle.dg_move.proofs.tends.tend.Goals as goal
 

@@ -30,7 +30,7 @@ returns-clause-made g c =
     let old : Grouped g.row.R.Denot = record { rack = c.self.inside.rack; width = c.self.inside.width; groups = c.self.inside.groups.items; tally = c.self.inside.tally } in
     let new : Grouped g.row.R.Denot = record { rack = c.self.inside.rack; width = c.self.inside.width; groups = c.self.inside.groups.items; tally = c.note.new.self } in
     subst (λ (s : Grouped g.row.R.Denot). GroupedMade g.R.Rack s (looks m ∷ []) new) c.self.view_is
-    (made_grouped g.R.Rack (looks m) m refl r old new (steps-none g.R.Rack m c.self.inside.groups.items c.self.inside.rack c.self.invariant.kept) (tally_of m r c.is_err.result c.self.inside.tally c.note.new.self c.is_err.ensures.value c.note.ensures.notes) (λ s j no was. was))
+    (made_grouped g.R.Rack (looks m) m refl r old new (steps-none g.R.Rack m c.self.inside.groups.items c.self.inside.rack c.self.invariant.kept) (tally_of m r c.is_err.result c.self.inside.tally c.note.new.self c.is_err.ensures.value c.note.ensures.notes) refl (λ s j no was. was))
 
 pub returns-clause-writes : goal.returns-clause-writes
 returns-clause-writes g c =

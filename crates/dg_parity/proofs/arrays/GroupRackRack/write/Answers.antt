@@ -37,7 +37,7 @@ returns-clause-made g c =
     let old : Grouped g.row.R.Denot = record { rack = c.self.inside.rack; width = c.self.inside.width; groups = c.self.inside.groups.items; tally = c.self.inside.tally } in
     let new : Grouped g.row.R.Denot = record { rack = c.write_at-result.new.rack; width = c.self.inside.width; groups = c.write_at-result.new.groups.items; tally = c.note_write.new.self } in
     subst (λ (s : Grouped g.row.R.Denot). GroupedMade g.R.Rack s (calls m ∷ []) new) c.self.view_is
-    (made_grouped g.R.Rack (calls m) m refl r old new c.write_at-result.ensures.steps (tally_of m r c.is_err.result c.self.inside.tally c.note_write.new.self c.is_err.ensures.value c.note_write.ensures.notes)
+    (made_grouped g.R.Rack (calls m) m refl r old new c.write_at-result.ensures.steps (tally_of m r c.is_err.result c.self.inside.tally c.note_write.new.self c.is_err.ensures.value c.note_write.ensures.notes) refl
     (λ s j no was. c.write_at-result.ensures.stays s j was))
 
 pub returns-clause-writes : goal.returns-clause-writes

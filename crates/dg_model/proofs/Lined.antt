@@ -1,7 +1,7 @@
--- Bytes in lines.
+-- Bytes in lines. A law for the crates above.
 use Rattle.std.proofs.Common.{◌≡◌, ◌≤◌, ◌<◌, ℕ, zero, suc, List, [], ◌∷◌, ◌++◌, length, take, drop, refl, ◌∙◌, ap, arith, take-append-drop, inl, inr}
-use Rattle.std.specs.Prelude.{◌⊎◌}
 use Rattle.std.specs.List.{concat}
+use Rattle.std.proofs.lemmas.Bool.{cases_lt}
 use Rattle.std.proofs.lemmas.List.{append-nil, length-drop}
 use Rattle.std.proofs.lemmas.Grind.{common_steps}
 use Rattle.dg_model.specs.Lists.{AreLines}
@@ -11,11 +11,6 @@ pub record Lined (l : ℕ) (bytes : List ℕ) : Type 0 where
   pub lines : List (List ℕ)
   pub are : AreLines l lines
   pub whole : concat lines ≡ bytes
-
-le_or_lt : (a b : ℕ) → (a ≤ b) ⊎ (b < a)
-le_or_lt zero b = inl (omega arith)
-le_or_lt (suc a) zero = inr (omega arith)
-le_or_lt (suc a) (suc b) = elim (le_or_lt a b) [ inl low ↦ inl (omega (arith, low)) | inr high ↦ inr (omega (arith, high)) ]
 
 line_before : (l : ℕ) (line : List ℕ) (more : List (List ℕ)) → 0 < l → length line ≡ l → AreLines l more → AreLines l (line ∷ more)
 line_before l line [] some full are = (omega (arith, some, full), omega (arith, full))
@@ -36,9 +31,11 @@ line_first l bytes some more rest =
       whole = ap (λ (s : List ℕ). take l bytes ++ s) rest.whole ∙ take-append-drop l bytes;
     }
 
-line_by : (l : ℕ) (bytes : List ℕ) → 0 < l → 0 < length bytes → Lined l (drop l bytes) → (length bytes ≤ l) ⊎ (l < length bytes) → Lined l bytes
-line_by l bytes some any rest (inl within) = one_line l bytes any within
-line_by l bytes some any rest (inr more) = line_first l bytes some more rest
+line_by : (l : ℕ) (bytes : List ℕ) → 0 < l → 0 < length bytes → Lined l (drop l bytes) → Lined l bytes
+line_by l bytes some any rest = elim (cases_lt l (length bytes)) [
+  | inl more ↦ line_first l bytes some more rest
+  | inr within ↦ one_line l bytes any within
+]
 
 -- bytes can be put in lines of each length but 0
 pub in_lines : (l fuel : ℕ) (bytes : List ℕ) → 0 < l → length bytes ≤ fuel → Lined l bytes
@@ -46,4 +43,4 @@ in_lines l zero [] some n = no_lines l
 in_lines l zero (x ∷ xs) some n = absurd (omega arith)
 in_lines l (suc fuel) [] some n = no_lines l
 in_lines l (suc fuel) (x ∷ xs) some n =
-    line_by l (x ∷ xs) some (omega arith) (in_lines l fuel (drop l (x ∷ xs)) some (omega (arith, length-drop l (x ∷ xs)))) (le_or_lt (length (x ∷ xs)) l)
+    line_by l (x ∷ xs) some (omega arith) (in_lines l fuel (drop l (x ∷ xs)) some (omega (arith, length-drop l (x ∷ xs))))
