@@ -17,8 +17,10 @@ pub mod RackWords
 pub mod Racks
 pub mod Reduced
 pub mod SinkCalls
+pub mod SinkLines
 pub mod SinkPieces
 pub mod Sinks
+pub mod SourceReads
 pub mod Sources
 pub mod Told
 pub mod ViewLaws
