@@ -2,7 +2,6 @@
 use Rattle.std.proofs.Common.{◌≤◌, ℕ, ap, arith}
 use Rattle.dg_io.specs.declared.outside.Rack.{Ghosts}
 use Rattle.dg_model.specs.declared.shapes.Shape.{Shape}
-use Rattle.dg_store.specs.Stores as stores
 use Rattle.dg_volume.specs.Regroups.{AnswersRegroup, GoesOn, HasBoundaries, TakesOut}
 use Rattle.dg_volume.specs.Volumes.{Leaves, any_phase, rack_of, shape_of}
 use Rattle.dg_volume.specs.declared.phases.AnyPhase.{AnyPhase}
@@ -30,8 +29,8 @@ has_boundaries phase rack boundaries volume ready r same = omega (arith, ready.e
 enough_left : {R : Type 0} (rack : Ghosts R) (boundaries : R → ℕ) (dropped : R → ℕ → R → Type 0) (old new : Volume AnyPhase R)
     → IsReady any_phase rack boundaries old → (out : TakesOut rack boundaries dropped old.store new.store) → (shape_of new).b ≤ boundaries (rack_of new)
 enough_left rack boundaries dropped old new ready out =
-    let before = ready.names (stores.rack_of out.mid) (rack_of old) out.opened.stays.same_rack in
-    let after = ready.names (rack_of new) (stores.rack_of out.left) out.read.stays.same_rack in
+    let before = ready.names _ (rack_of old) out.opened.stays.same_rack in
+    let after = ready.names (rack_of new) _ out.read.stays.same_rack in
     omega (arith, ready.enough, before, after, out.rest, ap (λ (s : Shape). s.b) out.opened.shape, ap (λ (s : Shape). s.b) out.read.shape)
 
 -- what `regroup` leaves
