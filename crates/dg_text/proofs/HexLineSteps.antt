@@ -55,7 +55,7 @@ line_written sink old new front line l same used is full told calls =
       told = subst P (sym (one_line line)) told;
       calls = subst Q (sym (one_line line)) calls;
       few_lines = lines_of_text 255 sink.whole sink.calls sink.taken 1 (length (bytes_line line)) (bytes_line line) old.sink.now new.sink.now
-          (may_line (bytes_line line) (bytes_feed line)) calls told;
+          (may_line 255 (bytes_line line) (bytes_feed line)) calls told;
     }
 
 pub line_part : {K : Type 0} (sink : Ghosts K) (old new : HexLines K) (bytes line : List ℕ) (count : ℕ) → new.l ≡ old.l → new.sink.ghost_name ≡ old.sink.ghost_name
@@ -131,7 +131,7 @@ ended_calls sink lines rest last a b c first second =
 -- the line of the bytes that wait, and the last
 rest_weight : (rest last : List ℕ) → 1 ≤ feeds_in last → MayWrite 255 (length (rest_lines rest) + 1) (file_text (rest_lines rest) ++ last)
 rest_weight rest last feed =
-    may_both (length (rest_lines rest)) 1 (file_text (rest_lines rest)) last (may_each bytes_line (rest_lines rest) bytes_feed) (may_line last feed)
+    may_both (length (rest_lines rest)) 1 (file_text (rest_lines rest)) last (may_each bytes_line (rest_lines rest) bytes_feed) (may_line 255 last feed)
 
 pub ends : {K : Type 0} (sink : Ghosts K) (old new : HexLines K) (last : List ℕ) → 1 ≤ feeds_in last
     → Told (Took (file_text (rest_lines (waiting old)) ++ last)) (sink.taken old.sink.now) (sink.taken new.sink.now)

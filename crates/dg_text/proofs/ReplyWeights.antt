@@ -109,7 +109,7 @@ data_weight bytes =
     may_pieces 4096 (length bytes) (reply_line (Data bytes)) (omega arith) (omega (arith, digits, words, all)) (feed_last (codes "data " ++ hex_word bytes))
 
 one : (reply : Reply) → MayWrite 255 1 (reply_line reply)
-one reply = may_line (reply_line reply) (feed_last (words_of reply))
+one reply = may_line 255 (reply_line reply) (feed_last (words_of reply))
 
 pub reply_weight : (reply : Reply) → MayWrite 255 (calls_of reply) (reply_line reply)
 reply_weight (Blocks blocks) = may_ended (length blocks) (blocks_text blocks) _ (may_each block_line blocks block_feed)

@@ -3,7 +3,7 @@ use Rattle.std.proofs.Common.{◌≡◌, ◌≤◌, ◌+◌, ◌*◌, ◌-◌, �
 use Rattle.std.specs.Prelude.{codes, Result, OnOk, if◌then◌else◌}
 use Rattle.std.specs.Fmt.{decimal}
 use Rattle.std.specs.List.{flat_map, sum_by}
-use Rattle.std.proofs.Math.Nat.{mul-div-le, mul-le-mul_right}
+use Rattle.std.proofs.Math.Nat.{mul-div-le, mul-le-mul_left, mul-le-mul_right}
 use Rattle.std.proofs.lemmas.List.{length-append}
 use Rattle.std.proofs.lemmas.List.Sums.{sum_by-append, sum_by-cons}
 use Rattle.std.proofs.lemmas.Result.{on_ok_weaker}
@@ -31,8 +31,10 @@ pub feed_number : (word : List ℕ) (n : ℕ) → 1 ≤ feeds_in (word ++ (decim
 feed_number word n = feed_behind word (decimal n ++ codes "\n") (feed_last (decimal n))
 
 -- one call, for a line
-pub may_line : (text : List ℕ) → 1 ≤ feeds_in text → MayWrite 255 1 text
-may_line text some = omega (arith, some)
+pub may_line : (w : ℕ) (text : List ℕ) → 1 ≤ feeds_in text → MayWrite w 1 text
+may_line w text some =
+    let more : w * 1 ≤ w * feeds_in text = mul-le-mul_left w some in
+    omega (arith, more)
 
 -- calls for a text, and for another
 pub may_both : (m n : ℕ) (s text : List ℕ) → MayWrite 255 m s → MayWrite 255 n text → MayWrite 255 (m + n) (s ++ text)
@@ -61,7 +63,7 @@ may_lines line_of count (x ∷ xs) each =
 pub may_each : {A : Type 0} (line_of : A → List ℕ) (xs : List A) → ((x : A) → 1 ≤ feeds_in (line_of x)) → MayWrite 255 (length xs) (flat_map line_of xs)
 may_each line_of [] each = omega arith
 may_each line_of (x ∷ xs) each =
-    omega (arith, may_both 1 (length xs) (line_of x) (flat_map line_of xs) (may_line (line_of x) (each x)) (may_each line_of xs each))
+    omega (arith, may_both 1 (length xs) (line_of x) (flat_map line_of xs) (may_line 255 (line_of x) (each x)) (may_each line_of xs each))
 
 -- what was written leaves no more calls than its lines and bytes allow
 pub leaves_lines : {K : Type 0} (sink : Ghosts K) {T E : Type 0} (result : Result T E) (few each : ℕ) (text : List ℕ) (a b : K) → MayWrite 255 few text
@@ -75,4 +77,4 @@ pub leaves_line : {K : Type 0} (sink : Ghosts K) {T E : Type 0} (result : Result
     → LeavesSink sink.whole sink.calls 1 each a b → OnOk result (Told (Took line) (sink.taken a) (sink.taken b))
     → OnOk result (LeavesLines 255 sink.whole sink.calls sink.taken a b)
 leaves_line sink result each line text a b is some leaves took =
-    leaves_lines sink result 1 each line a b (may_line line (subst (λ (l : List ℕ). 1 ≤ feeds_in l) (sym is) some)) leaves took
+    leaves_lines sink result 1 each line a b (may_line 255 line (subst (λ (l : List ℕ). 1 ≤ feeds_in l) (sym is) some)) leaves took
