@@ -2,6 +2,8 @@ use Rattle.std.proofs.Common.{◌≡◌, ◌∙◌, List, ℕ, rules, subst, sym
 use Rattle.dg_drill.proofs.DrillLaws.{ends_drill}
 use Rattle.dg_drill.specs.Calls.{facts_of}
 use Rattle.dg_drill.proofs.ReportCalls.{report_feed}
+use Rattle.dg_drill.specs.Drills.{written_count}
+use Rattle.dg_drill.specs.Reports.{report_text}
 use Rattle.dg_io.specs.SinkLines.{MayWrite}
 use Rattle.dg_text.specs.LineWeights.{may_line}
 use Rattle.dg_io.specs.Told.{Told, Took, TookPart}
@@ -21,4 +23,8 @@ pub returns-clause-lines : goal.returns-clause-lines
 returns-clause-lines g c = λ other.
     let same : c.deref.result.now ≡ c.in_ok-rack.field-0.text.items = search rules in
     let drilled = c.in_ok-rack.ensures.drilled (g.K.Sink.taken c.args.sink.now) (g.K.Sink.taken c.tell-end.new.sink) in
-    c.tell-end.ensures.lines (subst (λ (text : List ℕ). MayWrite 255 1 text) (sym (same ∙ drilled.text_is)) (may_line 255 _ (report_feed c.args.seed c.args.files _ _ _))) other
+    let written = written_count drilled.written.table in
+    let text : List ℕ = report_text c.args.seed c.args.files written drilled.settled drilled.cats in
+    let is : c.deref.result.now ≡ text = same ∙ drilled.text_is in
+    let may : MayWrite 255 1 text = may_line 255 text (report_feed c.args.seed c.args.files written drilled.settled drilled.cats) in
+    c.tell-end.ensures.lines (subst (λ (shown : List ℕ). MayWrite 255 1 shown) (sym is) may) other

@@ -1,4 +1,4 @@
-use Rattle.std.proofs.Common.{◌∙◌, ℕ, List, subst, sym}
+use Rattle.std.proofs.Common.{◌≡◌, ◌∙◌, ℕ, List, subst, sym}
 use Rattle.dg_io.specs.SinkLines.{MayWrite}
 use Rattle.dg_saved.proofs.Opened.{has_shown, shown_ends}
 use Rattle.dg_saved.proofs.Unopened.{no_state_ends, status_unopened, unclean_ends}
@@ -6,9 +6,9 @@ use Rattle.dg_saved.specs.Calls.{facts_of}
 use Rattle.dg_saved.specs.Ends.{EndsStatus}
 use Rattle.dg_saved.specs.OpeningLaws.{found_no_state, found_unclean}
 use Rattle.dg_volume.specs.Opens.{AnswersOpen}
-use Rattle.dg_volume.specs.Volumes.{rack_of}
+use Rattle.dg_volume.specs.Volumes.{any_phase, members_of, phase_of, rack_of, table_of}
 use Rattle.dg_saved.proofs.Calls.{array_feed, nostate_feed, unclean_feed}
-use Rattle.dg_saved.specs.Texts.{nostate_text, unclean_text}
+use Rattle.dg_saved.specs.Texts.{array_text, nostate_text, unclean_text}
 use Rattle.dg_text.specs.LineWeights.{may_line}
 use Rattle.dg_saved.proofs.shows.show_status.Goals as goal
 
@@ -46,5 +46,8 @@ returns-in-Unclean-clause-lines g c = λ other. c.tell-in-Unclean.ensures.lines 
 
 pub returns-clause-lines : goal.returns-clause-lines
 returns-clause-lines g c = λ other.
-    let is = c.deref.ensures.value ∙ c.in_ok-text-in-Opened.ensures in
-    c.tell-end.ensures.lines 255 (subst (λ (text : List ℕ). MayWrite 255 1 text) (sym is) (may_line 255 _ (array_feed _ _ _))) other
+    let volume = c.in-Opened.volume in
+    let text : List ℕ = array_text (table_of volume) (members_of volume) (phase_of any_phase volume) in
+    let is : c.deref.result.now ≡ text = c.deref.ensures.value ∙ c.in_ok-text-in-Opened.ensures in
+    let may : MayWrite 255 1 text = may_line 255 text (array_feed (table_of volume) (members_of volume) (phase_of any_phase volume)) in
+    c.tell-end.ensures.lines 255 (subst (λ (shown : List ℕ). MayWrite 255 1 shown) (sym is) may) other
