@@ -69,7 +69,7 @@ are_taken images before now taken none read = record {
 
 -- ---- what a call finds
 
-had_is : (image all : Option (List ℕ)) → IsSome all → had image all ≡ image
+pub had_is : (image all : Option (List ℕ)) → IsSome all → had image all ≡ image
 had_is image None told = absurd (false≢true told)
 had_is image (Some all) told = refl
 
