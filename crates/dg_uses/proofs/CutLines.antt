@@ -1,6 +1,6 @@
 -- Want of memory is told of no input without a line feed of which something was read.
 use Rattle.std.proofs.Common.{◌≡◌, ◌≢◌, ◌∙◌, ℕ, List, [], ◌∷◌, ◌++◌, ap, append_assoc, inl, inr, refl, sym, subst}
-use Rattle.std.specs.Prelude.{◌⊎◌, IsSome, None, Option, Some}
+use Rattle.std.specs.Prelude.{IsSome, None, Option, Some}
 use Rattle.std.proofs.lemmas.List.{append-nil}
 use Rattle.std.proofs.lemmas.List.Concat.{flat_map-append}
 use Rattle.std.proofs.lemmas.List.Elements.{All-head, All-tail}

@@ -17,7 +17,7 @@ use Rattle.dg_open.specs.Founds.{IsRead}
 use Rattle.dg_run.specs.Calls.{Facts}
 use Rattle.dg_run.specs.Resumes.{AllResumed, RanOn}
 use Rattle.dg_saved.specs.Calls.{Facts as SavedFacts}
-use Rattle.dg_saved.specs.Saved.{HasSource, had}
+use Rattle.dg_saved.specs.Saved.{HasSource}
 use Rattle.dg_text.specs.Lines.{IsInPlace, input_of}
 use Rattle.dg_text.specs.Replies.{output_of}
 use Rattle.dg_uses.proofs.PastReads.{past_read}

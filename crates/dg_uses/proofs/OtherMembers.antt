@@ -1,5 +1,5 @@
 -- The boundaries of an array's first line stay along a run, and the members behind them are left alone.
-use Rattle.std.proofs.Common.{◌≡◌, ◌∙◌, ◌≤◌, ◌/◌, ◌^◌, ℕ, List, [], ◌∷◌, length, ap, arith, refl, subst, sym}
+use Rattle.std.proofs.Common.{◌≡◌, ◌∙◌, ◌≤◌, ◌/◌, ◌^◌, ℕ, List, [], ◌∷◌, length, ap, arith, subst, sym}
 use Rattle.std.specs.Prelude.{IsSome, Option, Some}
 use Rattle.dg_io.specs.Told.{IsSame, Told}
 use Rattle.dg_model.proofs.MomentLaws.{history_runs}

@@ -1,6 +1,6 @@
 -- A block that is written and saved in one call, and read in the next one.
 use Rattle.std.proofs.Common.{◌≡◌, ◌≤◌, ◌<◌, ◌*◌, ◌+◌, ◌/◌, ◌∙◌, ℕ, zero, suc, Bool, true, false, not, ◌&&◌, List, [], ◌∷◌, length, ap, arith, inl, inr, refl, subst, sym}
-use Rattle.std.specs.Prelude.{◌≢◌, ◌⊎◌, ◌↔◌, All, IfSome, IsSome, IsSomeAnd, None, Option, Some, codes}
+use Rattle.std.specs.Prelude.{All, IfSome, IsSome, IsSomeAnd, None, Option, Some, codes}
 use Rattle.std.specs.Fmt.{digits}
 use Rattle.std.proofs.lemmas.Bool.{false≢true}
 use Rattle.std.proofs.lemmas.List.Elements.{All-cons, All-nil}
@@ -21,9 +21,9 @@ use Rattle.dg_model.specs.Causes.{NoneRose, Rose}
 use Rattle.dg_model.specs.Changes.{Stays}
 use Rattle.dg_model.specs.Lives.{member_at}
 use Rattle.dg_model.specs.Members.{is_filling, is_good, is_lost}
-use Rattle.dg_model.specs.Moments.{AreCountsOf, Moment}
+use Rattle.dg_model.specs.Moments.{AreCountsOf}
 use Rattle.dg_model.specs.Moments.Kind.{plain}
-use Rattle.dg_model.specs.Openings.{Opens, Reduced, all_in_use}
+use Rattle.dg_model.specs.Openings.{Reduced, all_in_use}
 use Rattle.dg_model.specs.Sites.{all_lost, has_site}
 use Rattle.dg_model.specs.States.{Counts, HoldsAll, State, gone_in}
 use Rattle.dg_model.specs.Steps.{Step}
@@ -31,11 +31,11 @@ use Rattle.dg_model.specs.Tables.{Table, sites_in}
 use Rattle.dg_model.specs.declared.events.Event.{Event}
 use Rattle.dg_model.specs.declared.events.Event.TheVariants.{Array, Read, Save as SaveEvent, Write}
 use Rattle.dg_model.specs.declared.members.MemberState.{MemberState}
-use Rattle.dg_model.specs.declared.members.MemberState.TheVariants.{Good, Out}
+use Rattle.dg_model.specs.declared.members.MemberState.TheVariants.{Good}
 use Rattle.dg_model.specs.declared.replies.Reply.{Reply}
 use Rattle.dg_model.specs.declared.replies.Reply.TheVariants.{Data, Lost, NotSaved, Range, Saved, Unavailable}
 use Rattle.dg_model.specs.declared.shapes.Shape.{Shape}
-use Rattle.dg_run.specs.Calls.{Facts, met_by}
+use Rattle.dg_run.specs.Calls.{Facts}
 use Rattle.dg_run.specs.Opened.{opened_moment}
 use Rattle.dg_run.specs.Replays.{Ran, Replayed, TellsBoundaries}
 use Rattle.dg_run.specs.Resumes.{AllResumed, RanOn}
@@ -46,11 +46,10 @@ use Rattle.dg_uses.proofs.Flat.{Fine, blank_fine, good_all, good_not_out, sites_
 use Rattle.dg_uses.proofs.Held.{holds_whole}
 use Rattle.dg_uses.proofs.InUse.{InUse, gone_is, in_use_stays}
 use Rattle.dg_uses.proofs.Lines.{OneInput, none_from}
-use Rattle.dg_uses.proofs.OtherMembers.{made_boundaries, others_in}
+use Rattle.dg_uses.proofs.OtherMembers.{others_in}
 use Rattle.dg_uses.proofs.Quiet.{quiet, quiet_counts}
 use Rattle.dg_uses.proofs.QuietRuns.{history_tied, quiet_history, stay_for}
 use Rattle.dg_uses.proofs.RefusedRows.{OneLine}
-use Rattle.dg_uses.proofs.ResumedAgain.{none_in_opening}
 use Rattle.dg_uses.proofs.Rows.{IsHere, shape_here, shape_is, two_bytes}
 use Rattle.dg_uses.proofs.SameLines.{same_events}
 use Rattle.dg_uses.proofs.TakenAway.{BlankIsOlder, all_stand}
