@@ -21,6 +21,7 @@ mod Refusing
 mod Regrouping
 mod Resuming
 mod Segments
+mod SourceSteps
 mod Runs
 mod ToldSteps
 mod Whole
