@@ -40,6 +40,16 @@ pub fn write_reply<K: Sink>(sink: &mut K, reply: &Reply) -> Result<(), Failed>
     ensures calls { LeavesSink K.whole K.calls (calls_of reply.now) (length (reply_line reply.now)) sink.old sink.new }
     ensures lines { OnOk result (LeavesLines 255 K.whole K.calls K.taken sink.old sink.new) }
 {
+    write_by_kind(sink, reply)
+}
+
+// Writes the lines of a reply by its kind.
+fn write_by_kind<K: Sink>(sink: &mut K, reply: &Reply) -> Result<(), Failed>
+    ensures ok { OnOk result (Told (Took (reply_line reply.now)) (K.taken sink.old) (K.taken sink.new)) }
+    ensures err { OnErr result (Told (TookPart (reply_line reply.now)) (K.taken sink.old) (K.taken sink.new)) }
+    ensures cause { HasCause (K.faults sink.old) (K.faults sink.new) result }
+    ensures calls { LeavesSink K.whole K.calls (calls_of reply.now) (length (reply_line reply.now)) sink.old sink.new }
+{
     match reply {
         Reply::Done => write_all(sink, b"ok\n"),
         Reply::Range => write_all(sink, b"range\n"),
