@@ -46,6 +46,7 @@ pub fn look(bytes: &[u8], seen: usize, limit: usize) -> Scan
 }
 
 /// Reads bytes behind the first ones of a buffer, and answers how many.
+#[tactic(auto, using(crate::proofs::SourceSteps::reads_any, crate::proofs::SourceSteps::reads_some))]
 pub fn read_behind<S: Source>(
     source: &mut S,
     bytes: &mut Vec<u8>,
