@@ -7,6 +7,7 @@ pub mod Chains
 pub mod Cores
 mod DrilledLaws
 mod Ended
+mod FewCalls
 mod Flat
 mod Held
 pub mod InUse
