@@ -9,6 +9,7 @@ mod Ended
 mod FileParts
 mod Happening
 mod Inputs
+mod LentLines
 mod LineFeeds
 mod LostReplies
 mod NodeLines
