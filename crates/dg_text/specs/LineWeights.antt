@@ -26,6 +26,9 @@ feed_last words =
 pub feed_behind : (front text : List ℕ) → 1 ≤ feeds_in text → 1 ≤ feeds_in (front ++ text)
 feed_behind front text some = omega (arith, feeds_both front text, some)
 
+pub feed_ahead : (text rest : List ℕ) → 1 ≤ feeds_in text → 1 ≤ feeds_in (text ++ rest)
+feed_ahead text rest some = omega (arith, feeds_both text rest, some)
+
 -- a line of a word and a number
 pub feed_number : (word : List ℕ) (n : ℕ) → 1 ≤ feeds_in (word ++ (decimal n ++ codes "\n"))
 feed_number word n = feed_behind word (decimal n ++ codes "\n") (feed_last (decimal n))
