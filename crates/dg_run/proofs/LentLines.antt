@@ -25,10 +25,10 @@ module _ {K : Type 0} (ghosts : Ghosts K) where
       lent sink start out end is (lines_both 255 ghosts.whole ghosts.calls ghosts.taken start middle out first second) back
 
   -- memory was wanting behind some first entries, or at once
-  pub nodes_wanted : {holds : Reply → Type 0} (old new : Lines K) → HandsLines (TookEntries ghosts) old new holds → Leaves old.sink.now new.sink.now
-  nodes_wanted old new (inl same) = subst (λ (l : Lines K). Leaves old.sink.now l.sink.now) (sym same) (lines_none 255 ghosts.whole ghosts.calls ghosts.taken old.sink.now)
-  nodes_wanted old new (inr some) = some.2.few_lines
+  pub nodes_wanted : (holds : Reply → Type 0) (old new : Lines K) → HandsLines (TookEntries ghosts) old new holds → Leaves old.sink.now new.sink.now
+  nodes_wanted holds old new (inl same) = subst (λ (l : Lines K). Leaves old.sink.now l.sink.now) (sym same) (lines_none 255 ghosts.whole ghosts.calls ghosts.taken old.sink.now)
+  nodes_wanted holds old new (inr some) = some.2.few_lines
 
-  pub files_wanted : {holds : Reply → Type 0} (old new : LostLines K) → HandsFiles (TookLost ghosts) old new holds → Leaves old.sink.now new.sink.now
-  files_wanted old new (inl same) = subst (λ (l : LostLines K). Leaves old.sink.now l.sink.now) (sym same) (lines_none 255 ghosts.whole ghosts.calls ghosts.taken old.sink.now)
-  files_wanted old new (inr some) = some.2.few_lines
+  pub files_wanted : (holds : Reply → Type 0) (old new : LostLines K) → HandsFiles (TookLost ghosts) old new holds → Leaves old.sink.now new.sink.now
+  files_wanted holds old new (inl same) = subst (λ (l : LostLines K). Leaves old.sink.now l.sink.now) (sym same) (lines_none 255 ghosts.whole ghosts.calls ghosts.taken old.sink.now)
+  files_wanted holds old new (inr some) = some.2.few_lines

@@ -149,7 +149,7 @@ returns-in-Ok-cut-clause-lines g c none =
 
 pub returns-in_default-clause-lines : goal.returns-in_default-clause-lines
 returns-in_default-clause-lines g c none =
-    lent g.K.Sink _ _ c.lost_files.new.out.sink.now _ c.new-files.ensures.sink (files_wanted g.K.Sink c.new-files.result c.lost_files.new.out c.in_default.ensures.part) (search rules)
+    lent g.K.Sink _ _ c.lost_files.new.out.sink.now _ c.new-files.ensures.sink (files_wanted g.K.Sink (λ reply. StepsTo any_phase any_phase g.R.Rack c.args.array.now.volume LostFiles reply c.lost_files.new.self) c.new-files.result c.lost_files.new.out c.in_default.ensures.part) (search rules)
 
 pub returns-in_default-told-clause-lines : goal.returns-in_default-told-clause-lines
 returns-in_default-told-clause-lines g c =

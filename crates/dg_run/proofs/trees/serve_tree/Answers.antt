@@ -150,7 +150,7 @@ returns-in-Ok-cut-clause-lines g c none =
 
 pub returns-in_default-clause-lines : goal.returns-in_default-clause-lines
 returns-in_default-clause-lines g c none =
-    lent g.K.Sink _ _ c.tree.new.out.sink.now _ c.new-entries.ensures.sink (nodes_wanted g.K.Sink c.new-entries.result c.tree.new.out c.in_default.ensures.part) (search rules)
+    lent g.K.Sink _ _ c.tree.new.out.sink.now _ c.new-entries.ensures.sink (nodes_wanted g.K.Sink (λ reply. StepsTo any_phase any_phase g.R.Rack c.args.array.now.volume Tree reply c.tree.new.self) c.new-entries.result c.tree.new.out c.in_default.ensures.part) (search rules)
 
 pub returns-in_default-told-clause-lines : goal.returns-in_default-told-clause-lines
 returns-in_default-told-clause-lines g c =
