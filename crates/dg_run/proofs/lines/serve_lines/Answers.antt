@@ -86,3 +86,7 @@ returns-in_err-bytes-clause-wanting g c = λ is.
 pub returns-in_err-bytes-clause-goes : goal.returns-in_err-bytes-clause-goes
 returns-in_err-bytes-clause-goes g c =
     continues_then g.R.Rack g.met.R.Rack.made_none g.met.R.Rack.made_both g.met.R.Rack.after c.args.array.now c.loop-passed.array c.serve_next.new.array c.loop-passed.invariant.goes c.in_err-bytes.ensures.goes
+
+pub returns-in_err-bytes-clause-lines : goal.returns-in_err-bytes-clause-lines
+returns-in_err-bytes-clause-lines g c none =
+    lines_both 255 g.K.Sink.whole g.K.Sink.calls g.K.Sink.taken c.args.sink.now c.loop-passed.sink c.serve_next.new.sink c.loop-passed.invariant.lines (c.in_err-bytes.ensures.lines (λ at. none (search (rules, at))))
