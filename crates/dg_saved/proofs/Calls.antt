@@ -1,5 +1,5 @@
 -- By how many calls the texts of a saved array are printed.
-use Rattle.std.proofs.Common.{◌≡◌, ◌≤◌, ℕ, List, ◌++◌, arith, refl, subst}
+use Rattle.std.proofs.Common.{◌≡◌, ◌≤◌, ℕ, ◌++◌, arith, refl, subst}
 use Rattle.std.specs.Prelude.{Some, codes}
 use Rattle.std.specs.List.{flat_map, range_with_len}
 use Rattle.dg_io.specs.SinkLines.{feeds_in}

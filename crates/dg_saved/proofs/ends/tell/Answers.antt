@@ -1,4 +1,3 @@
-use Rattle.std.proofs.Common.{refl}
 use Rattle.dg_io.specs.SinkLines.{lines_of_text}
 use Rattle.dg_saved.proofs.ends.tell.Goals as goal
 
