@@ -9,6 +9,7 @@ mod CutLines
 mod DrilledLaws
 mod Ended
 mod FarReads
+mod FewCalls
 mod Flat
 mod Held
 pub mod InUse

@@ -1,8 +1,10 @@
 // Replays between objects in memory.
-ghost use Rattle.std.specs.Prelude.{◌≡◌, [], IfOk, Some, codes, map, string_bytes};
+ghost use Rattle.std.specs.Prelude.{◌≡◌, ◌≤◌, ◌+◌, [], IfOk, Some, codes, length, map, string_bytes};
 ghost use Rattle.dg_io.specs.Racks.{counts_in, member_in, told_in};
-ghost use Rattle.dg_io.specs.Sinks.{taken_in};
-ghost use Rattle.dg_io.specs.Sources.{left_in};
+ghost use Rattle.dg_io.specs.SinkLines.{LeavesLines, MayWrite};
+ghost use Rattle.dg_io.specs.Sinks.{sink_calls, taken_in};
+ghost use Rattle.dg_io.specs.SourceReads.{LeavesSource};
+ghost use Rattle.dg_io.specs.Sources.{left_in, source_calls};
 ghost use Rattle.dg_run.specs.Replays.{BrokeOff, IsCut, Replayed, Stopped};
 ghost use Rattle.dg_words.specs.Commands.{IsCommand};
 ghost use Rattle.dg_words.specs.declared.commands.Command.{Command};
@@ -58,6 +60,8 @@ fn run_replay(
         (Some (left_in source.old)) (Some (left_in source.new)) (Some (taken_in sink.old)) (Some (taken_in sink.new)) }
     ensures broke { result ≡ Status.ReadFault → BrokeOff (counts_in rack.old) (counts_in rack.new) (member_in rack.old) (member_in rack.new) (told_in rack.new)
         (Some (left_in source.old)) (Some (left_in source.new)) (Some (taken_in sink.old)) (Some (taken_in sink.new)) }
+    ensures lines { (result ≡ Status.WriteFault → ⊥) → LeavesLines 255 (λ s. Unit {0}) sink_calls (λ s. Some (taken_in s)) sink.old sink.new }
+    ensures reads { LeavesSource source_calls (λ s. Some (left_in s)) 1 source.old source.new }
 {
     run(alloc, words, source, sink, rack)
 }
@@ -73,6 +77,8 @@ fn replay_failing(
     ensures bad_line { IfOk result (λ end. end.status ≡ Status.BadLine → HasStopped text.now end) }
     ensures part { IfOk result (λ end. end.status ≡ Status.WriteFault → HasBeenCut text.now end) }
     ensures broke { IfOk result (λ end. end.status ≡ Status.ReadFault → HasBrokenOff text.now end) }
+    ensures lines { IfOk result (λ end. (end.status ≡ Status.WriteFault → ⊥) → MayWrite 255 (sink_calls end.sink) (taken_in end.sink)) }
+    ensures reads { IfOk result (λ end. source_calls end.source + length (left_in end.source) ≤ length text.now + 1) }
 {
     let words = replay_words(alloc)?;
     let Ok(bytes) = Vec::from_slice(alloc, text) else {
@@ -95,13 +101,17 @@ pub fn replay_text(alloc: Global, text: &[u8], fails: Vec<u64>) -> Result<Replay
     ensures done { IfOk result (λ end. end.status ≡ Status.Done → HasReplayed text.now end) }
     ensures bad_line { IfOk result (λ end. end.status ≡ Status.BadLine → HasStopped text.now end) }
     ensures part { IfOk result (λ end. end.status ≡ Status.WriteFault → HasBeenCut text.now end) }
+    ensures lines { IfOk result (λ end. (end.status ≡ Status.WriteFault → ⊥) → MayWrite 255 (sink_calls end.sink) (taken_in end.sink)) }
+    ensures reads { IfOk result (λ end. source_calls end.source + length (left_in end.source) ≤ length text.now + 1) }
 {
     replay_failing(alloc, text, Vec::new(alloc), fails)
 }
 
-/// A block is written and read.
+/// A block is written and read. Each of the three replies was written by one call, and each read of the source but one took a byte of the text.
 pub fn read_what_was_written(alloc: Global) -> Result<Replay, NoMemory>
-    ensures { IfOk result (λ end. end.status ≡ Status.Done → NeverFailed end → taken_in end.sink ≡ codes "ok\nok\ndata 6869\n") }
+    ensures calls { IfOk result (λ end. end.status ≡ Status.Done → NeverFailed end → sink_calls end.sink ≤ 3) }
+    ensures reads { IfOk result (λ end. source_calls end.source ≤ 42) }
+    ensures prints { IfOk result (λ end. end.status ≡ Status.Done → NeverFailed end → taken_in end.sink ≡ codes "ok\nok\ndata 6869\n") }
 {
     input_is_unique();
     replay_text(

@@ -15,3 +15,6 @@ returns-clause-part c = λ is. ended (told_in c.run.new.rack) (met c.args.source
 
 pub returns-clause-broke : goal.returns-clause-broke
 returns-clause-broke c = λ is. ended (told_in c.run.new.rack) (met c.args.source.now c.run.new.source c.args.sink.now c.run.new.sink c.args.rack.now c.run.new.rack) c.run.result ReadFault (c.run.ensures.ends Replay c.requires) is
+
+pub returns-clause-lines : goal.returns-clause-lines
+returns-clause-lines c = c.run.ensures.lines Replay c.requires
