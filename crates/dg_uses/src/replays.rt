@@ -65,6 +65,7 @@ fn run_replay(
 }
 
 /// Replays a text over a rack of eight members, each of them there, to a sink that fails at these of its calls.
+#[tactic(auto, using(crate::proofs::FewCalls::lines_from_none, crate::proofs::FewCalls::reads_from_none))]
 pub fn replay_text(alloc: Global, text: &[u8], fails: Vec<u64>) -> Result<Replay, NoMemory>
     ensures done { IfOk result (λ end. end.status ≡ Status.Done → HasReplayed text.now end) }
     ensures bad_line { IfOk result (λ end. end.status ≡ Status.BadLine → HasStopped text.now end) }
