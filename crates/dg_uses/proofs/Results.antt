@@ -13,3 +13,7 @@ done_no_read status done read = let e : Done ≡ ReadFault = sym done ∙ read i
 
 pub done_no_write : (status : Status) → status ≡ Done → status ≡ WriteFault → ⊥
 done_no_write status done write = let e : Done ≡ WriteFault = sym done ∙ write in cc e
+
+pub if_ok_both : {T E : Type 0} (result : Result T E) (P Q S : T → Type 0) → ((value : T) → P value → Q value → S value) → IfOk result P → IfOk result Q → IfOk result S
+if_ok_both (Ok value) P Q S f h k = f value h k
+if_ok_both (Err error) P Q S f h k = tt

@@ -67,6 +67,7 @@ fn run_replay(
 }
 
 // Replays a text over a rack of eight members, each of them there, from a source and to a sink that fail at these of their calls.
+#[tactic(auto, using(crate::proofs::FewCalls::lines_from_none, crate::proofs::FewCalls::reads_from_none))]
 fn replay_failing(
     alloc: Global,
     text: &[u8],
