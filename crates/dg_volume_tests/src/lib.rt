@@ -2,6 +2,14 @@
 #![tactic(auto)]
 
 #[cfg(test)]
+mod calls;
+#[cfg(test)]
+mod disk_faults;
+#[cfg(test)]
+mod even_blocks;
+#[cfg(test)]
+mod opened_tests;
+#[cfg(test)]
 mod settle_tests;
 #[cfg(test)]
 mod write_tests;
