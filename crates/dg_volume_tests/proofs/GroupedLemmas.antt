@@ -84,7 +84,7 @@ second_bytes rack it x = ap (λ (o : Option Group). told_of rack it.rack o) at w
 single_of : {S R : Type 0} (phase : phases.Ghosts S) (rack : Ghosts R) (volume : Volume S (ParityRack R)) → IsOfGroups phase rack volume
     → (r : ParityRack R) → rack_of volume ≡ r → AreSingle volume
 single_of phase rack volume is (Plain it) same x = absurd (omega (arith, is.groups, ap groups_in same, is.well.array.table.shape.least_boundaries))
-single_of phase rack volume is (OfGroups it) same x = out_by (members_of volume.store (2 * x + 1)) (λ not.
+single_of {R = R} phase rack volume is (OfGroups it) same x = out_by (members_of volume.store (2 * x + 1)) (λ not.
     let long : IfSome (grouped_bytes rack it (2 * x + 1)) (λ all. member_length 1 (shape_of volume) ≤ length all) =
     subst (λ (now : ParityRack R). IfSome (parity_bytes rack now (2 * x + 1)) (λ all. member_length 1 (shape_of volume) ≤ length all)) same (is.well.array.long (2 * x + 1) not) in
     let short : member_length 1 (shape_of volume) ≤ 0 =

@@ -26,15 +26,38 @@ fn disks(alloc: Global, fails: &[u64]) -> Result<MemRack, Fail> {
     Ok(MemRack::new(alloc, 43, ROOM, fails.to_vec(alloc)?)?)
 }
 
+/// Writes a block.
+fn writes<R: Rack>(
+    alloc: Global,
+    volume: &mut Grouped<R>,
+    block: u32,
+    byte: u8,
+) -> Result<WriteAnswer, Fail>
+    requires { IsOfGroups any_phase R.Rack volume.old }
+    ensures { IfOk result (λ answer. IsOfGroups any_phase R.Rack volume.new) }
+{
+    let answer = write_even(alloc, volume, block, byte)?;
+    Ok(answer)
+}
+
+/// Reads a block.
+fn reads<R: Rack>(volume: &mut Grouped<R>, block: u32) -> Result<Option<u8>, Fail>
+    requires { IsOfGroups any_phase R.Rack volume.old }
+    ensures { IfOk result (λ byte. IsOfGroups any_phase R.Rack volume.new) }
+{
+    let answer = read_even(volume, block)?;
+    Ok(answer)
+}
+
 /// Writes all blocks. It answers whether that was done.
-#[tactic(auto, using(crate::proofs::GroupedLemmas::stays_grouped))]
 fn fill<R: Rack>(alloc: Global, volume: &mut Grouped<R>, first: u8) -> Result<bool, Fail>
     requires { IsOfGroups any_phase R.Rack volume.old }
     ensures { IfOk result (λ done. IsOfGroups any_phase R.Rack volume.new) }
 {
     for block in 0..8u8 {
         let byte = first.saturating_add(block);
-        if write_even(alloc, volume, u32::from(block), byte)? != WriteAnswer::Written {
+        let answer = writes(alloc, volume, u32::from(block), byte)?;
+        if answer != WriteAnswer::Written {
             return Ok(false);
         }
     }
@@ -72,14 +95,13 @@ fn mends<R: Rack>(volume: &mut Grouped<R>, boundary: u32, disk: u32) -> MendDisk
 }
 
 /// How many blocks are gone, each with its boundary. All others are what was written last, from this byte on.
-#[tactic(auto, using(crate::proofs::GroupedLemmas::stays_grouped))]
 fn count_gone<R: Rack>(volume: &mut Grouped<R>, first: u8) -> Result<u32, Fail>
     requires { IsOfGroups any_phase R.Rack volume.old }
     ensures { IfOk result (λ gone. IsOfGroups any_phase R.Rack volume.new) }
 {
     let mut gone = 0u32;
     for block in 0..8u8 {
-        match read_even(volume, u32::from(block))? {
+        match reads(volume, u32::from(block))? {
             Some(byte) => if byte != first.saturating_add(block) {
                 return Err("byte".into());
             },
