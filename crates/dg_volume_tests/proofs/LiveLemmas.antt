@@ -8,7 +8,7 @@ use Rattle.dg_model.specs.declared.shapes.Shape.{Shape}
 use Rattle.dg_regroup.specs.LiveGhosts.{live}
 use Rattle.dg_regroup.specs.LiveRacks.{live_count, live_in, live_name, named}
 use Rattle.dg_regroup.specs.declared.live_racks.LiveRack.{LiveRack}
-use Rattle.dg_volume.specs.Volumes.{IsBlankVolume, loose_phase, rack_of, shape_of}
+use Rattle.dg_volume.specs.Volumes.{IsBlankVolume, loose_phase, rack_of}
 use Rattle.dg_volume.specs.declared.phases.Loose.{Loose}
 use Rattle.dg_volume.specs.declared.volumes.Volume.{Volume}
 use Rattle.dg_volume_tests.specs.Ready.{IsReady}

@@ -20,7 +20,7 @@ use std::test::Fail;
 use ufs_model::is_path;
 
 /// Writes the blocks of an image that aren't zero, ascending.
-fn fill<R: Reduces>(
+pub fn fill<R: Reduces>(
     alloc: Global,
     volume: &mut Volume<AnyPhase, R>,
     image: &[u8],
@@ -37,24 +37,21 @@ fn fill<R: Reduces>(
     Ok(())
 }
 
-/// The volume of an image, over a rack of all boundaries that there may be.
-pub fn up_live<R: Rack + Drop>(
+/// A blank volume over a rack of all boundaries that there may be.
+pub fn blank_live<R: Rack + Drop>(
     alloc: Global,
     rack: R,
     shape: Shape,
-    image: &[u8],
 ) -> Result<Volume<AnyPhase, LiveRack<R>>, Fail>
     requires { IsShape shape }
     ensures { IfOk result (IsReady any_phase (live R.Rack) live_count) }
 {
     names_tell_boundaries();
     let live = LiveRack::of_all(alloc, rack)?;
-    let mut volume = match Volume::array(alloc, live, shape) {
-        Ok(blank) => blank.into_any(),
-        Err(_) => return Err("memory".into()),
-    };
-    fill(alloc, &mut volume, image)?;
-    Ok(volume)
+    match Volume::array(alloc, live, shape) {
+        Ok(blank) => Ok(blank.into_any()),
+        Err(_) => Err("memory".into()),
+    }
 }
 
 /// Makes both members of a boundary fail. It answers whether neither was out before.

@@ -4,7 +4,7 @@ ghost use Rattle.std.specs.Prelude.{IfOk};
 ghost use Rattle.dg_volume.specs.Volumes.{IsWell, any_phase};
 ghost use Rattle.dg_volume_tests.specs.Ready.{IsReady};
 
-use crate::calls::{go_on, lose, put, up_live};
+use crate::calls::{blank_live, go_on, lose, put};
 use crate::even_blocks::read_even;
 use dg_io::{Checkpoint, MemRack, Rack, Reduces};
 use dg_model::Shape;
@@ -79,7 +79,7 @@ fn lose_and_save<R: Checkpoint + Reduces>(
 fn make<R: Rack + Drop>(rt: &impl Abort, alloc: Global, rack: R, room: u32) -> Result<(), Fail> {
     let shape = Shape::check(4096, 12, 3, 6, 1).ok_or("shape")?;
     let double = StopRack::new(alloc, rack, 6, LENGTH, room)?;
-    let mut volume = up_live(alloc, double, shape, b"")?;
+    let mut volume = blank_live(alloc, double, shape)?;
     lose_and_save(rt, alloc, &mut volume)
 }
 

@@ -3,10 +3,10 @@ use Rattle.dg_regroup.specs.LiveRacks.{live_count}
 use Rattle.dg_volume.specs.Volumes.{any_phase, loose_phase}
 use Rattle.dg_volume_tests.proofs.LiveLemmas.{all_ready}
 use Rattle.dg_volume_tests.proofs.ReadyLemmas.{stays_ready}
-use Rattle.dg_volume_tests.proofs.calls.up_live.Goals as goal
+use Rattle.dg_volume_tests.proofs.calls.blank_live.Goals as goal
 
-pub fill-requires : goal.fill-requires
-fill-requires g c =
+pub returns-in-Ok : goal.returns-in-Ok
+returns-in-Ok g c =
     let l = c.in_ok-live in
     let b = c.in-Ok in
     let ready = all_ready g.R.Rack c.names_tell_boundaries.ensures c.args.shape c.requires l.live l.ensures.live b.blank b.ensures in
