@@ -1,2 +1,4 @@
+mod GroupedLemmas
 mod LiveLemmas
+mod OpenedLemmas
 mod ReadyLemmas

@@ -6,6 +6,12 @@ mod calls;
 #[cfg(test)]
 mod checkpoint_faults;
 #[cfg(test)]
+mod disk_faults;
+#[cfg(test)]
+mod even_blocks;
+#[cfg(test)]
+mod opened_tests;
+#[cfg(test)]
 mod regroup_faults;
 #[cfg(test)]
 mod regroup_tests;
