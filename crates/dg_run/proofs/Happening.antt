@@ -139,12 +139,12 @@ module _ {R : Type 0} (rack : Ghosts R) (none : (s : R) → rack.made s [] s) (b
     tied = h.tied;
   }
 
-  pub history_of : {K : Type 0} (old : Standing R) (events : List Event) (replies : List Reply) (new : Standing R) → Course rack K old events replies new
+  pub history_of : (K : Type 0) (old : Standing R) (events : List Event) (replies : List Reply) (new : Standing R) → Course rack K old events replies new
       → History K plain (on_pairs rack old) events replies (on_pairs rack new)
-  history_of old [] [] new h = ap (λ (s : Standing R). on_pairs rack s) h
-  history_of old [] (reply ∷ replies) new h = absurd h
-  history_of old (event ∷ events) [] new h = absurd h
-  history_of old (event ∷ events) (reply ∷ replies) new h = (on_pairs rack h.0, happens old h.0 event reply h.1, history_of h.0 events replies new h.2)
+  history_of K old [] [] new h = ap (λ (s : Standing R). on_pairs rack s) h
+  history_of K old [] (reply ∷ replies) new h = absurd h
+  history_of K old (event ∷ events) [] new h = absurd h
+  history_of K old (event ∷ events) (reply ∷ replies) new h = (on_pairs rack h.0, happens old h.0 event reply h.1, history_of K h.0 events replies new h.2)
 
   -- what is known by the line is known of the volume
   known_of : {P : Type 0} (b : arrays.Array (LiveRack R)) → IsReady rack b → KnownBy P rack b → Known P (live rack) b

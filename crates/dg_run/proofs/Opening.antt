@@ -485,7 +485,7 @@ module _ {R : Type 0} (rack : Ghosts R) (none : (s : R) → rack.made s [] s) (b
           final = on_pairs rack final;
           history = subst (λ (s : State). History (IsKnown told_now (met_by met) (rack.counts (below_of a)) from V) plain (on_pairs rack (standing_of a s)) events replies (on_pairs rack final))
               (sym counts_back)
-              (history_of rack none both law (standing_of a at.state) events replies final (course_less rack known_end (standing_of a at.state) events replies final course));
+              (history_of rack none both law _ (standing_of a at.state) events replies final (course_less rack known_end (standing_of a at.state) events replies final course));
         }
 
       pub resumed : (events : List Event) (replies : List Reply) → RunsBefore rack a events replies b → Resumed told_now met (rack.counts (below_of a)) from V events replies

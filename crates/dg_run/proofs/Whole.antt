@@ -61,7 +61,7 @@ pub record Meant {R : Type 0} (ghosts : Ghosts R) (Means : List Event → List R
 -- the first event of an input is one that may stand there, and the others are in their places behind it
 first_in_place : (event : Event) (events : List Event) → AreInPlace (event ∷ events)
     → IsInPlace None event × ((shape : Shape) × (shape_after (event ∷ events) ≡ Some shape) × All (IsInPlace (Some shape)) events)
-first_in_place (MakeArray s) events placed = (placed.0, s, refl, placed.1)
+first_in_place (MakeArray s) events placed = (placed.0, (s, refl, placed.1))
 first_in_place event events placed = absurd placed
 
 module _ {R : Type 0} (ghosts : Ghosts R) (none : (s : R) → ghosts.made s [] s)
@@ -207,9 +207,7 @@ module _ {R : Type 0} (ghosts : Ghosts R) (none : (s : R) → ghosts.made s [] s
       let start = standing_of a blank.state in
       (
         on_pairs ghosts W.0,
-        on_pairs ghosts start,
-        blank.makes,
-        history_of ghosts none both law start events replies W.0 (course_less ghosts (told_in W.0.state W.1) start events replies W.0 W.2),
+        (on_pairs ghosts start, blank.makes, history_of ghosts none both law _ start events replies W.0 (course_less ghosts (told_in W.0.state W.1) start events replies W.0 W.2)),
       )
 
   pub ran_of : (events : List Event) (replies : List Reply) → VolumeRunsTo ghosts a events replies b → All (IsInPlace (Some (shape_of a))) events → first + length (input_of events) ≤ 2 ^ 40
@@ -223,7 +221,7 @@ module _ {R : Type 0} (ghosts : Ghosts R) (none : (s : R) → ghosts.made s [] s
         in_place = all_in_place events placed;
         budget = all_in_budget events budget;
         final = on_pairs ghosts final;
-        history = (on_pairs ghosts start, blank.makes, history_of ghosts none both law start events replies final (course_less ghosts (told_in W.next line) start events replies final W.course));
+        history = (on_pairs ghosts start, blank.makes, history_of ghosts none both law _ start events replies final (course_less ghosts (told_in W.next line) start events replies final W.course));
         holds = λ told. holds_in_use ghosts none both law b W.next goes.ready W.stands (let k = told_in W.next line told in (k.0, W.known k.0 k.1));
         others = subst (λ (n : ℕ). OthersKept n (ghosts.counts rack) (ghosts.counts (below_of b)) (ghosts.bytes rack) (ghosts.bytes (below_of b))) (sym line) others_kept;
         counts = refl;
