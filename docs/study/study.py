@@ -119,19 +119,21 @@ def line(points, colour, dash="", width=2):
     return f'<polyline points="{places}" fill="none" stroke="{colour}" stroke-width="{width}" stroke-dasharray="{dash}"/>'
 
 
-def panel(b, at, curves):
-    """One diagram: the shares over the number of lost boundaries, for one B. A curve is its shares, colour, dashes and width."""
+def panel(count, at, curves, unit="boundaries", shown=None):
+    """One diagram: the shares over how many of so many boundaries, or disks, are lost. A curve is its shares, colour, dashes and width."""
+    shown = shown or count
+
     def place(k, share):
-        return at + WIDTH * k / b, TOP + HEIGHT * (1 - share)
+        return at + WIDTH * k / shown, TOP + HEIGHT * (1 - share)
 
     parts = [f'<rect x="{at}" y="{TOP}" width="{WIDTH}" height="{HEIGHT}" fill="none" stroke="#888"/>']
     for share in (0, 0.25, 0.5, 0.75, 1):
         parts.append(text(at - 6, place(0, share)[1] + 4, f"{share:.0%}", anchor="end"))
-        parts.append(line([place(0, share), place(b, share)], "#ddd", width=1))
-    for k in range(0, b + 1, 1 if b < 9 else 2):
+        parts.append(line([place(0, share), place(shown, share)], "#ddd", width=1))
+    for k in range(0, shown + 1, 1 if shown < 9 else 2):
         parts.append(text(place(k, 0)[0], TOP + HEIGHT + 16, k))
-    parts.append(text(at + WIDTH / 2, TOP + HEIGHT + 34, "lost boundaries"))
-    parts.append(text(at + WIDTH / 2, TOP - 10, f"{b} boundaries", 13))
+    parts.append(text(at + WIDTH / 2, TOP + HEIGHT + 34, f"lost {unit}"))
+    parts.append(text(at + WIDTH / 2, TOP - 10, f"{count} {unit}", 13))
     for shares, colour, dash, width in curves:
         parts.append(line([place(k, share) for k, share in shares], colour, dash, width))
     return parts
@@ -160,14 +162,14 @@ def legend(y, entries):
     return parts
 
 
-def figure(title, name, curves, entries):
-    """A figure with a panel for each B, of the curves that this has."""
-    width = LEFT + len(BOUNDARIES) * (WIDTH + GAP)
+def figure(title, name, curves, entries, counts=BOUNDARIES, **more):
+    """A figure with a panel for each B, or each number of disks, of the curves that this has."""
+    width = LEFT + len(counts) * (WIDTH + GAP)
     height = TOP + HEIGHT + 76
     parts = [f'<svg xmlns="http://www.w3.org/2000/svg" width="{width}" height="{height}" font-family="sans-serif">',
              f'<rect width="{width}" height="{height}" fill="white"/>', text(LEFT, 18, title, 14, "start")]
-    for i, b in enumerate(BOUNDARIES):
-        parts += panel(b, LEFT + i * (WIDTH + GAP), curves(b))
+    for i, count in enumerate(counts):
+        parts += panel(count, LEFT + i * (WIDTH + GAP), curves(count), **more)
     parts += legend(height - 16, entries) + ["</svg>"]
     with open(os.path.join(HERE, name), "w") as out:
         out.write("\n".join(parts) + "\n")

@@ -5,8 +5,8 @@
 The runs are a replay of a small volume's blocks with each kind of event (settle, cat, ls, tree, diffuse, fail, replace, rebuild, tend, save and
 more), and then, on the array that it saved, a `resume`, `cat`, `ls` and `status`. Each is run once undisturbed, which counts its allocations, and
 once for each number of an allocation, which SHIM (built of refuse.c) refuses. Such a run must end with status 5, and with nothing
-printed but a prefix of what the undisturbed run prints; nothing on standard error. `--from` and `--to` bound the numbers. The status is 1 where
-a run ended otherwise.
+printed but a prefix of what the undisturbed run prints; nothing on standard error. A run of a command that only reads must leave each image byte for
+byte as it was, and no run may make one that isn't of the array. `--from` and `--to` bound the numbers. The status is 1 where a run ended otherwise.
 """
 import argparse
 import collections
@@ -36,6 +36,8 @@ RESUMED = [
     "cat /a", "tree", CHANGED, "tend 3", "settle", "cat /h", "diffuse", "fail 1 1", "replace 1 1", "rebuild 1 99", "save", "fail 0 0", "fail 0 1", "cat /d/b",
     "write 3 -", "save", "audit", "regroup", "settle", "lostfiles", "cat /a", "write 3 -", "rebuild 1 99", "save",
 ]
+# the commands that only read the saved array
+READERS = ["cat", "ls", "status"]
 RUNS = [(["replay"], SCRIPT), (["resume"], RESUMED), (["cat", "/d/b"], []), (["ls", "/"], []), (["status"], [])]
 
 
@@ -46,6 +48,15 @@ def replies():
     return ["".join(line + "\n" for reply in some for line in reply).encode() for some in told]
 
 
+def images(folder):
+    """The bytes of each file of a folder, by its name."""
+    found = {}
+    for name in sorted(os.listdir(folder)):
+        with open(os.path.join(folder, name), "rb") as file:
+            found[name] = file.read()
+    return found
+
+
 class Drill:
     """The program with the shim, in folders of its own."""
 
@@ -53,9 +64,11 @@ class Drill:
         self.program, self.shim, self.base = program, shim, base
         self.counter = os.path.join(base, "count")
         self.wanted = replies()
+        self.saved = os.path.join(base, "saved")
+        self.kept = {}
 
     def run(self, words, lines, start, refused):
-        """One run on a copy of a folder: its output, what it told, its status, and how many allocations it made."""
+        """One run on a copy of a folder: its output, what it told, its status, how many allocations it made, and whether the images are as they may be."""
         folder = os.path.join(self.base, "run")
         shutil.copytree(start, folder)
         with open(self.counter, "wb") as file:
@@ -69,11 +82,18 @@ class Drill:
             ended = late.stdout or b"", b"", f"no end in {SECONDS} seconds"
         with open(self.counter, "rb") as file:
             count = int.from_bytes(file.read(8), "little")
+        kept = self.keeps(words, folder)
         if refused == 0 and words == ["replay"]:
-            os.rename(folder, os.path.join(self.base, "saved"))
+            os.rename(folder, self.saved)
+            self.kept = images(self.saved)
         else:
             shutil.rmtree(folder)
-        return *ended, count
+        return *ended, count, kept
+
+    def keeps(self, words, folder):
+        """Whether a run left the images as it may: one that only reads has changed none, and no run has made one that isn't of the array."""
+        left = images(folder)
+        return left == self.kept if words[0] in READERS else not self.kept or left.keys() <= self.kept.keys()
 
 
 def last_event(lines, output):
@@ -84,20 +104,21 @@ def last_event(lines, output):
 
 def try_run(drill, words, lines, start, first, last):
     """Refuses the allocations of one run in turn; how many were refused, and how many of these runs ended otherwise than they must."""
-    whole, told, status, count = drill.run(words, lines, start, 0)
+    whole, told, status, count, kept = drill.run(words, lines, start, 0)
     print(f"{' '.join(words)}: {count} allocations, {len(whole.splitlines())} lines, status {status}", flush=True)
-    if status != 0 or told or count == 0 or lines and whole not in drill.wanted:
-        sys.exit(f"the undisturbed run ended with status {status}, {count} allocations, and told {told!r}; or its replies aren't the model's")
+    if status != 0 or told or count == 0 or not kept or lines and whole not in drill.wanted:
+        sys.exit(f"the undisturbed run ended with status {status}, {count} allocations, and told {told!r}; or its replies aren't the model's, "
+                 "or it changed an image")
     wrong, places = 0, collections.Counter()
     tried = range(max(1, first), min(count, last) + 1)
     for number in tried:
-        output, told, status, _ = drill.run(words, lines, start, number)
+        output, told, status, _, kept = drill.run(words, lines, start, number)
         places[len(output.splitlines())] += 1
-        if status != NO_MEMORY or told or not whole.startswith(output):
+        if status != NO_MEMORY or told or not kept or not whole.startswith(output):
             wrong += 1
             at = last_event(lines, output) if lines else "no event"
             print(f"allocation {number} refused: status {status}, {len(output)} bytes of output ({at}), which are "
-                  f"{'' if whole.startswith(output) else 'no '}prefix, and told {told!r}", flush=True)
+                  f"{'' if whole.startswith(output) else 'no '}prefix, told {told!r}, and the images are{'' if kept else ' not'} as they may be", flush=True)
         if wrong == MOST_WRONG:
             break
     if first <= 1 and last > count:
@@ -108,8 +129,8 @@ def try_run(drill, words, lines, start, first, last):
 
 def drill_past(drill, words, lines, start, count, whole):
     """Where none is left to be refused, the run goes as undisturbed."""
-    output, told, status, _ = drill.run(words, lines, start, count + 1)
-    if (output, told, status) != (whole, b"", 0):
+    output, told, status, _, kept = drill.run(words, lines, start, count + 1)
+    if (output, told, status, kept) != (whole, b"", 0, True):
         sys.exit(f"a run without a refused allocation ended with status {status}")
 
 
@@ -126,10 +147,10 @@ def main():
         blank = os.path.join(base, "blank")
         os.mkdir(blank)
         for words, lines in RUNS:
-            start = blank if words == ["replay"] else os.path.join(base, "saved")
+            start = blank if words == ["replay"] else drill.saved
             more, worse = try_run(drill, words, lines, start, args.first, args.last)
             tried, wrong = tried + more, wrong + worse
-    print(f"{tried} allocations refused, {wrong} runs that ended otherwise than with status 5 and a prefix of the replies")
+    print(f"{tried} allocations refused, {wrong} runs that ended otherwise than with status 5, a prefix of the replies, and images as they may be")
     sys.exit(wrong > 0)
 
 

@@ -10,5 +10,6 @@ mod MadeLaws
 mod MemberSteps
 mod OrderLaws
 mod ReadLaws
+mod ReportCalls
 mod RoomSteps
 mod WriteCounts

@@ -4,6 +4,7 @@ ghost use Rattle.dg_drill.specs.Calls.{facts_of, rack_facts};
 ghost use Rattle.dg_drill.specs.Chains.{HasLost};
 ghost use Rattle.dg_drill.specs.Drills.{EndsDrill, HasDrilled};
 ghost use Rattle.dg_drill.specs.Volumes.{IsDrillVolume, drill_shape};
+ghost use Rattle.dg_io.specs.SinkLines.{LeavesLines, MayWrite};
 ghost use Rattle.dg_io.specs.Told.{Told, Took, TookPart};
 ghost use Rattle.dg_model.specs.Causes.{Rose};
 ghost use Rattle.dg_model.specs.States.{State};
@@ -125,6 +126,7 @@ fn tell<K: Sink>(sink: &mut K, text: &[u8]) -> DrillEnd
     ensures part { result ≡ DrillEnd.WriteFault → Told (TookPart text.now) (K.taken sink.old) (K.taken sink.new) }
     ensures write { result ≡ DrillEnd.WriteFault → Rose (K.faults sink.old) (K.faults sink.new) }
     ensures kept { result ≢ DrillEnd.WriteFault → K.faults sink.new ≡ K.faults sink.old }
+    ensures lines { MayWrite 255 1 text.now → result ≢ DrillEnd.WriteFault → LeavesLines 255 K.whole K.calls K.taken sink.old sink.new }
 {
     match write_all(sink, text) {
         Ok(()) => DrillEnd::Done,
@@ -148,6 +150,7 @@ pub fn run_drill<K: Sink, R: Rack + Drop>(
     ensures none { OnErr result (sink.new ≡ sink.old) }
     ensures write { IfOk result (λ drilled. drilled.end ≡ DrillEnd.WriteFault → Rose (K.faults sink.old) (K.faults sink.new)) }
     ensures kept { IfOk result (λ drilled. drilled.end ≢ DrillEnd.WriteFault → K.faults sink.new ≡ K.faults sink.old) }
+    ensures lines { IfOk result (λ drilled. drilled.end ≢ DrillEnd.WriteFault → LeavesLines 255 K.whole K.calls K.taken sink.old sink.new) }
 {
     let Untold { rack, text } = drill_rack(alloc, seed, files, rack)?;
     let end = tell(sink, &text);

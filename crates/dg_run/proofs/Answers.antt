@@ -38,3 +38,8 @@ event_part_by rack event reply taken given old new (Err failed) runs told = reco
 pub at_err : {T E P : Type 0} (result : Result T E) (fault : E) → result ≡ Err fault → OnErr result P → P
 at_err (Ok done) fault is all = absurd (cc is)
 at_err (Err failed) fault is all = all
+
+-- what is so where there is no such error
+pub at_ok : {T E P : Type 0} (result : Result T E) (fault : E) → OnErr result (result ≡ Err fault) → OnOk result P → (result ≡ Err fault → ⊥) → P
+at_ok (Ok done) fault only all none = all
+at_ok (Err failed) fault only all none = absurd (none only)

@@ -9,6 +9,7 @@ mod Ended
 mod FileParts
 mod Happening
 mod Inputs
+mod LentLines
 mod LineFeeds
 mod LostReplies
 mod NodeLines
@@ -21,6 +22,7 @@ mod Refusing
 mod Regrouping
 mod Resuming
 mod Segments
+mod SourceSteps
 mod Runs
 mod ToldSteps
 mod Whole

@@ -6,8 +6,9 @@ use Rattle.dg_io.specs.declared.outside.Sink as sinks
 use Rattle.dg_model.specs.Paths.{PathOf}
 use Rattle.dg_model.specs.declared.events.Event.TheVariants.{LostFiles}
 use Rattle.dg_model.specs.declared.replies.Reply.{Reply}
-use Rattle.dg_model.specs.declared.replies.Reply.TheVariants.{LostFiles as LostFilesReply, NotSettled, Refused, Unavailable as ReplyUnavailable}
+use Rattle.dg_model.specs.declared.replies.Reply.TheVariants.{LostFiles as LostFilesReply, NotSettled}
 use Rattle.dg_run.proofs.ArraySteps.{steps_of, weaker_steps}
+use Rattle.dg_run.proofs.PathReplies.{reply_is}
 use Rattle.dg_run.specs.Steps.{WantedFor}
 use Rattle.dg_run.specs.declared.arrays.Array.{Array}
 use Rattle.dg_saved.specs.PathReplies.{HasReply}
@@ -18,7 +19,6 @@ use Rattle.dg_volume.specs.LostFiles.{AnswersLost, AnswersLostAny, HandsFiles}
 use Rattle.dg_volume.specs.Volumes.{StepsTo, any_phase}
 use Rattle.dg_volume.specs.declared.settled_paths.TreeAnswer.{TreeAnswer}
 use Rattle.dg_volume.specs.declared.settled_paths.TreeAnswer.TheVariants.{Is as TreeIs, NotSettled as TreeNotSettled}
-use Rattle.ufs_model.specs.declared.reads.PathRefusal.TheVariants.{NotFound as RefusedNotFound, NotDirectory as RefusedNotDirectory, NotRegular as RefusedNotRegular, Bad as RefusedBad}
 use Rattle.ufs_path.specs.declared.faults.CatAnswer.{CatAnswer}
 use Rattle.ufs_path.specs.declared.faults.CatAnswer.TheVariants.{Given as AnswerGiven, NotFound, NotDirectory, Bad, Unavailable, NotRegular, Cut as AnswerCut, SinkFault}
 
@@ -26,26 +26,11 @@ use Rattle.ufs_path.specs.declared.faults.CatAnswer.TheVariants.{Given as Answer
 pub lost_nothing : {S : Type 0} (took took_part : S → List PathOf → S → Type 0) (faults : S → ℕ) (old new : S) (holds : Reply → Type 0) (answer : CatAnswer)
     → (has : HasReply answer) → AnswersLost took took_part faults old new holds answer → (new ≡ old) × holds has.reply
 lost_nothing took took_part faults old new holds (AnswerGiven n) has rule = let is = has.is in absurd (cc is)
-lost_nothing took took_part faults old new holds NotFound has rule =
-    let is = has.is in
-    let same : Refused RefusedNotFound ≡ has.reply = cc is in
-    (rule.0, subst holds same rule.1)
-lost_nothing took took_part faults old new holds NotDirectory has rule =
-    let is = has.is in
-    let same : Refused RefusedNotDirectory ≡ has.reply = cc is in
-    (rule.0, subst holds same rule.1)
-lost_nothing took took_part faults old new holds (Bad bad) has rule =
-    let is = has.is in
-    let same : Refused (RefusedBad bad) ≡ has.reply = cc is in
-    (rule.0, subst holds same rule.1)
-lost_nothing took took_part faults old new holds Unavailable has rule =
-    let is = has.is in
-    let same : ReplyUnavailable ≡ has.reply = cc is in
-    (rule.0, subst holds same rule.1)
-lost_nothing took took_part faults old new holds NotRegular has rule =
-    let is = has.is in
-    let same : Refused RefusedNotRegular ≡ has.reply = cc is in
-    (rule.0, subst holds same rule.1)
+lost_nothing took took_part faults old new holds NotFound has rule = reply_is holds _ has.reply has.is rule
+lost_nothing took took_part faults old new holds NotDirectory has rule = reply_is holds _ has.reply has.is rule
+lost_nothing took took_part faults old new holds (Bad bad) has rule = reply_is holds _ has.reply has.is rule
+lost_nothing took took_part faults old new holds Unavailable has rule = reply_is holds _ has.reply has.is rule
+lost_nothing took took_part faults old new holds NotRegular has rule = reply_is holds _ has.reply has.is rule
 lost_nothing took took_part faults old new holds (AnswerCut n) has rule = let is = has.is in absurd (cc is)
 lost_nothing took took_part faults old new holds SinkFault has rule = let is = has.is in absurd (cc is)
 

@@ -140,6 +140,11 @@ uses_array (Trace order b k m) = false
 uses_array Audit = false
 uses_array command = true
 
+-- A call of the sink takes a line, or so many bytes: the bytes of a file that `cat` prints are passed on in the pieces in which they are read.
+abbrev pub line_bytes : Command → ℕ
+line_bytes (Cat path) = 1
+line_bytes command = 255
+
 -- the words are no command
 abbrev pub AreNoCommand : List (List ℕ) → Type 0
 AreNoCommand words = (command : Command) → IsCommand words command → ⊥

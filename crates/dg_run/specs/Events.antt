@@ -9,6 +9,12 @@ use Rattle.dg_run.specs.Refusals.{IsRefusedBy}
 use Rattle.dg_run.specs.declared.events.Taken.{Taken}
 use Rattle.dg_run.specs.declared.events.Taken.TheVariants.{Event, End, Refused}
 
+-- how many reads may have given no byte: none where an event was taken
+abbrev pub empty_reads_of_taken : Taken → ℕ
+empty_reads_of_taken (Event event n) = 0
+empty_reads_of_taken End = 1
+empty_reads_of_taken (Refused kind) = 1
+
 -- the event is in its place, and its line has so many bytes, no more than the room
 abbrev pub IsTaken : Option Shape → ℕ → Taken → Type 0
 IsTaken shape room (Event event n) = IsInPlace shape event × (n ≡ length (line_of event)) × (n ≤ room)

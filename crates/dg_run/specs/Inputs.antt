@@ -24,6 +24,13 @@ IsStep limit input End = Unit {0}
 IsStep limit input Full = Unit {0}
 IsStep limit input (Cut n) = n < limit
 
+-- how many reads gave no byte: one at the end of the input
+abbrev pub empty_reads_of_step : LineStep → ℕ
+empty_reads_of_step (Line from to) = 0
+empty_reads_of_step End = 1
+empty_reads_of_step Full = 0
+empty_reads_of_step (Cut n) = 1
+
 -- the text ends after so many bytes, at least one, and has no line feed
 pub record IsCutOff (n : ℕ) (text : List ℕ) : Type 0 where
   pub some : text ≡ [] → ⊥

@@ -31,6 +31,12 @@ pub record BeginsAll (shape : Option Shape) (events : List Event) (before after 
   pub lines : before ≡ input_of events ++ after
   pub only : (others : List Event) → All (IsInPlace shape) others → before ≡ input_of others → (more : List Event) × (others ≡ events ++ more) × (after ≡ input_of more)
 
+-- how many reads may have given no byte: none where a line was served
+abbrev pub empty_reads_of_turn : Turn → ℕ
+empty_reads_of_turn (turn_served n) = 0
+empty_reads_of_turn turn_end = 1
+empty_reads_of_turn (turn_refused kind) = 1
+
 -- what a turn did: nothing changes where it served no line
 abbrev pub Turned : {R : Type 0} → Ghosts R → Shape → ℕ → Option (List ℕ) → Option (List ℕ) → Option (List ℕ) → Option (List ℕ) → Array (LiveRack R) → Array (LiveRack R) → Turn → Type 0
 Turned rack shape room left rest taken given old new (turn_served n) = ServedLine rack shape room n left rest taken given old new

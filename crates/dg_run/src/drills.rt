@@ -1,5 +1,6 @@
 // The command that drills an array.
 ghost use Rattle.std.specs.Prelude.{◌≡◌, ◌↔◌, ◌≤◌};
+ghost use Rattle.dg_io.specs.SinkLines.{LeavesLines};
 ghost use Rattle.dg_drill.specs.Calls.{facts_of};
 ghost use Rattle.dg_drill.specs.Drills.{EndsDrill};
 ghost use Rattle.dg_model.specs.Causes.{Rose};
@@ -37,6 +38,7 @@ pub fn serve_drill<K: Sink, R: Rack>(
         (K.taken sink.old) (K.taken sink.new) result }
     ensures write { result ≡ Status.WriteFault → Rose (K.faults sink.old) (K.faults sink.new) }
     ensures kept { (result ≡ Status.WriteFault → ⊥) → K.faults sink.new ≡ K.faults sink.old }
+    ensures lines { (result ≡ Status.WriteFault → ⊥) → LeavesLines 255 K.whole K.calls K.taken sink.old sink.new }
     ensures read { result ≡ Status.ReadFault → ⊥ }
     ensures usage { result ≡ Status.Usage → ⊥ }
 {

@@ -3,6 +3,7 @@ ghost use Rattle.std.specs.Prelude.{◌≡◌, ◌≤◌, ◌<◌, ◌+◌, ◌+
 ghost use Rattle.std.specs.Option.{option_copied};
 ghost use Rattle.dg_model.specs.Causes.{Rose};
 ghost use Rattle.dg_model.specs.Shapes.{IsShape};
+ghost use Rattle.dg_io.specs.SourceReads.{LeavesSource};
 ghost use Rattle.dg_io.specs.Told.{Told, AreAny};
 ghost use Rattle.dg_model.specs.declared.shapes.Shape.{Shape};
 ghost use Rattle.dg_text.specs.Lines.{longest};
@@ -10,7 +11,7 @@ ghost use Rattle.dg_run.specs.Bytes.{HasNoLineFeed};
 ghost use Rattle.dg_run.specs.Endings.{GaveLines};
 ghost use Rattle.dg_run.specs.Inputs.{ahead, BeginsWithLine, IsCutOff, IsFull};
 ghost use Rattle.dg_run.specs.Refusals.{IsRefusedBy};
-ghost use Rattle.dg_run.specs.Events.{IsTaken, TookEvent, TookLine};
+ghost use Rattle.dg_run.specs.Events.{IsTaken, TookEvent, TookLine, empty_reads_of_taken};
 
 use crate::input::{Input, LineStep};
 use dg_io::Source;
@@ -102,6 +103,8 @@ pub fn take_event<S: Source>(
     ensures kept { (result ≡ Err Fault.Read → ⊥) → S.faults source.new ≡ S.faults source.old }
     ensures read { result ≡ Err Fault.Read → Rose (S.faults source.old) (S.faults source.new) }
     ensures write { result ≡ Err Fault.Write → ⊥ }
+    ensures reads { LeavesSource S.calls S.left 1 source.old source.new }
+    ensures taken_reads { IfOk result (λ taken. LeavesSource S.calls S.left (empty_reads_of_taken taken) source.old source.new) }
 {
     let most = longest_line(shape);
     match input.next_line(source, most) {

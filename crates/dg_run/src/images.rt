@@ -1,5 +1,7 @@
 // The command that makes a trace of an image.
 ghost use Rattle.std.specs.Prelude.{◌≡◌, ◌↔◌, Err, Result};
+ghost use Rattle.dg_io.specs.SinkLines.{LeavesLines};
+ghost use Rattle.dg_io.specs.SourceReads.{LeavesSource};
 ghost use Rattle.dg_model.specs.Causes.{Rose};
 ghost use Rattle.dg_run.specs.Ends.{EndsTrace, trace_status};
 ghost use Rattle.dg_trace.specs.Calls.{facts_of};
@@ -37,6 +39,8 @@ pub fn serve_trace<S: Source, K: Sink>(
     ensures write { result ≡ Status.WriteFault → Rose (K.faults sink.old) (K.faults sink.new) }
     ensures source_kept { (result ≡ Status.ReadFault → ⊥) → S.faults source.new ≡ S.faults source.old }
     ensures sink_kept { (result ≡ Status.WriteFault → ⊥) → K.faults sink.new ≡ K.faults sink.old }
+    ensures lines { (result ≡ Status.WriteFault → ⊥) → LeavesLines 255 K.whole K.calls K.taken sink.old sink.new }
+    ensures reads { LeavesSource S.calls S.left 1 source.old source.new }
     ensures usage { result ≡ Status.Usage → ⊥ }
 {
     let end = write_trace(alloc, asked, source, sink);

@@ -1,6 +1,7 @@
 // The input, through one buffer, in pieces of the source's choosing.
 ghost use Rattle.std.specs.Prelude.{◌≡◌, ◌+◌, ◌-◌, ◌≤◌, ◌<◌, ◌++◌, [], ℕ, List, Option, length, take, slice_range, IfOk, IfSome, IfNone, OnErr};
 ghost use Rattle.dg_io.specs.Faults.{HasCause};
+ghost use Rattle.dg_io.specs.SourceReads.{LeavesSource};
 ghost use Rattle.dg_io.specs.Told.{Told, IsSame};
 
 use crate::pieces::{Scan, look, read_behind};
@@ -36,7 +37,7 @@ pub enum LineStep {
 
 impl Input {
     ghost use Rattle.dg_run.specs.Endings.{GaveLines};
-    ghost use Rattle.dg_run.specs.Inputs.{unread, ahead, line_in, TookStep, IsStep};
+    ghost use Rattle.dg_run.specs.Inputs.{unread, ahead, empty_reads_of_step, line_in, TookStep, IsStep};
     ghost use Rattle.dg_run.specs.Bytes.{HasNoLineFeed};
 
     /// Nothing read yet. The buffer is taken here.
@@ -95,6 +96,8 @@ impl Input {
         ensures same { Told IsSame (ahead self.old (S.left source.old)) (ahead self.new (S.left source.new)) }
         ensures err { OnErr result (unread self.new ≡ unread self.old) }
         ensures cause { HasCause (S.faults source.old) (S.faults source.new) result }
+        ensures reads { LeavesSource S.calls S.left 1 source.old source.new }
+        ensures gave_some { IfOk result (λ n. 0 < n → LeavesSource S.calls S.left 0 source.old source.new) }
     {
         self.make_room();
         let end = self.end;
@@ -121,6 +124,7 @@ impl Input {
         ensures same { IfNone result (unread self.new ≡ unread self.old) }
         ensures short { IfNone result (length (unread self.new) < limit) }
         ensures without { IfNone result (HasNoLineFeed (unread self.new)) }
+        ensures there { IfSome result (λ step. empty_reads_of_step step ≡ 0) }
     {
         let from = self.at;
         match look(self.waiting(), seen, limit) {
@@ -141,6 +145,8 @@ impl Input {
         ensures took { IfOk result (λ step. Told (TookStep limit self.new step) (ahead self.old (S.left source.old)) (ahead self.new (S.left source.new))) }
         ensures err { OnErr result (Told (GaveLines []) (ahead self.old (S.left source.old)) (S.left source.new)) }
         ensures cause { HasCause (S.faults source.old) (S.faults source.new) result }
+        ensures reads { LeavesSource S.calls S.left 1 source.old source.new }
+        ensures step_reads { IfOk result (λ step. LeavesSource S.calls S.left (empty_reads_of_step step) source.old source.new) }
     {
         let mut seen = 0;
         loop {

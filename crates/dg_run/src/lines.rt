@@ -1,5 +1,7 @@
 // The lines of a trace, one after another.
 ghost use Rattle.std.specs.Prelude.{◌≡◌, ◌-◌, ◌+◌, ◌≤◌, ◌<◌, ◌^◌, [], IfOk, Some, length};
+ghost use Rattle.dg_io.specs.SinkLines.{LeavesLines};
+ghost use Rattle.dg_io.specs.SourceReads.{LeavesSource};
 ghost use Rattle.dg_io.specs.Told.{Told};
 ghost use Rattle.dg_model.specs.Causes.{Rose};
 ghost use Rattle.dg_run.specs.Inputs.{ahead};
@@ -7,7 +9,7 @@ ghost use Rattle.dg_run.specs.Endings.{GaveLines, LinesBrokeOff, LinesCut, Lines
 ghost use Rattle.dg_model.specs.Shapes.{IsShape};
 ghost use Rattle.dg_run.specs.Histories.{Continues, IsReady};
 ghost use Rattle.dg_run.specs.Steps.{shape_of};
-ghost use Rattle.dg_run.specs.Lines.{Turned, LinesEndAt};
+ghost use Rattle.dg_run.specs.Lines.{Turned, LinesEndAt, empty_reads_of_turn};
 
 use crate::arrays::Array;
 use crate::events::{Fault, Taken, take_event};
@@ -70,8 +72,11 @@ fn serve_next<S: Source, K: Sink, R: Rack>(
     ensures sink_later { K.faults sink.old ≤ K.faults sink.new }
     ensures source_kept { (result ≡ Err Fault.Read → ⊥) → S.faults source.new ≡ S.faults source.old }
     ensures sink_kept { (result ≡ Err Fault.Write → ⊥) → K.faults sink.new ≡ K.faults sink.old }
+    ensures lines { (result ≡ Err Fault.Write → ⊥) → LeavesLines 255 K.whole K.calls K.taken sink.old sink.new }
     ensures read { result ≡ Err Fault.Read → Rose (S.faults source.old) (S.faults source.new) }
     ensures write { result ≡ Err Fault.Write → Rose (K.faults sink.old) (K.faults sink.new) }
+    ensures reads { LeavesSource S.calls S.left 1 source.old source.new }
+    ensures turn_reads { IfOk result (λ turn. LeavesSource S.calls S.left (empty_reads_of_turn turn) source.old source.new) }
 {
     match take_event(alloc, input, source, Some(shape), room)? {
         Taken::Event(event, bytes) => {
@@ -113,8 +118,10 @@ pub fn serve_lines<S: Source, K: Sink, R: Rack>(
     ensures sink_later { K.faults sink.old ≤ K.faults sink.new }
     ensures source_kept { (result ≡ Err Fault.Read → ⊥) → S.faults source.new ≡ S.faults source.old }
     ensures sink_kept { (result ≡ Err Fault.Write → ⊥) → K.faults sink.new ≡ K.faults sink.old }
+    ensures lines { (result ≡ Err Fault.Write → ⊥) → LeavesLines 255 K.whole K.calls K.taken sink.old sink.new }
     ensures read { result ≡ Err Fault.Read → Rose (S.faults source.old) (S.faults source.new) }
     ensures write { result ≡ Err Fault.Write → Rose (K.faults sink.old) (K.faults sink.new) }
+    ensures reads { LeavesSource S.calls S.left 1 source.old source.new }
 {
     let shape = *array.volume.shape();
     let mut passed = first;

@@ -1,5 +1,6 @@
 // The event that lists a directory by its path.
 ghost use Rattle.std.specs.Prelude.{◌≡◌, ◌≤◌, true, OnErr, OnOk};
+ghost use Rattle.dg_io.specs.SinkLines.{LeavesLines};
 ghost use Rattle.dg_model.specs.Causes.{Rose};
 ghost use Rattle.dg_run.specs.Steps.{Answered, AnsweredPart, GoesOn, IsSound};
 ghost use Rattle.ufs_model.specs.Paths.{is_path};
@@ -25,6 +26,7 @@ pub fn serve_ls<R: Rack, K: Sink>(
     ensures part { result ≡ Err Fault.Write → AnsweredPart R.Rack (Event.Ls path.now) (K.taken sink.old) (K.taken sink.new) array.old array.new }
     ensures later { K.faults sink.old ≤ K.faults sink.new }
     ensures kept { (result ≡ Err Fault.Write → ⊥) → K.faults sink.new ≡ K.faults sink.old }
+    ensures lines { (result ≡ Err Fault.Write → ⊥) → LeavesLines 255 K.whole K.calls K.taken sink.old sink.new }
     ensures read { result ≡ Err Fault.Read → ⊥ }
     ensures memory { result ≡ Err Fault.NoMemory → ⊥ }
     ensures write { result ≡ Err Fault.Write → Rose (K.faults sink.old) (K.faults sink.new) }

@@ -1,5 +1,6 @@
 // What is answered at a path that gave nothing.
 ghost use Rattle.std.specs.Prelude.{◌≡◌, ◌≤◌, IsSome, Some, OnOk, OnErr};
+ghost use Rattle.dg_io.specs.SinkLines.{LeavesLines};
 ghost use Rattle.dg_model.specs.Causes.{Rose};
 ghost use Rattle.dg_model.specs.declared.replies.Reply.{Reply};
 ghost use Rattle.dg_io.specs.Told.{Told, Took, TookPart};
@@ -20,6 +21,7 @@ pub fn send_nothing<K: Sink>(sink: &mut K, answer: CatAnswer) -> Result<(), Faul
         → OnErr result (Told (TookPart (reply_line reply)) (K.taken sink.old) (K.taken sink.new)) }
     ensures later { K.faults sink.old ≤ K.faults sink.new }
     ensures kept { OnOk result (K.faults sink.new ≡ K.faults sink.old) }
+    ensures lines { OnOk result (LeavesLines 255 K.whole K.calls K.taken sink.old sink.new) }
     ensures err { OnErr result (result ≡ Err Fault.Write) }
     ensures write { OnErr result (Rose (K.faults sink.old) (K.faults sink.new)) }
 {

@@ -1,6 +1,7 @@
 // The event that tells the pending blocks.
 ghost use Rattle.std.specs.Prelude.{◌≡◌, ◌≤◌, IfOk, OnErr, OnOk, length};
 ghost use Rattle.dg_io.specs.Faults.{HasCause};
+ghost use Rattle.dg_io.specs.SinkLines.{LeavesLines};
 ghost use Rattle.dg_io.specs.Told.{Told, Took, TookPart};
 ghost use Rattle.dg_model.specs.Causes.{Rose};
 ghost use Rattle.dg_model.specs.Marks.{marked};
@@ -26,6 +27,7 @@ fn write_pending<R: Rack, K: Sink>(
     ensures ok { OnOk result (Told (Took (blocks_text (marked (marks_of any_phase volume.now)))) (K.taken sink.old) (K.taken sink.new)) }
     ensures err { OnErr result (Told (TookPart (blocks_text (marked (marks_of any_phase volume.now)))) (K.taken sink.old) (K.taken sink.new)) }
     ensures cause { HasCause (K.faults sink.old) (K.faults sink.new) result }
+    ensures lines { OnOk result (LeavesLines 255 K.whole K.calls K.taken sink.old sink.new) }
 {
     let mut count = 0;
     let mut from = 0;
@@ -44,6 +46,7 @@ pub fn serve_pending<R: Rack, K: Sink>(array: &Array<R>, sink: &mut K) -> Result
     ensures part { result ≡ Err Fault.Write → AnsweredPart R.Rack Event.Pending (K.taken sink.old) (K.taken sink.new) array.now array.now }
     ensures later { K.faults sink.old ≤ K.faults sink.new }
     ensures kept { (result ≡ Err Fault.Write → ⊥) → K.faults sink.new ≡ K.faults sink.old }
+    ensures lines { (result ≡ Err Fault.Write → ⊥) → LeavesLines 255 K.whole K.calls K.taken sink.old sink.new }
     ensures read { result ≡ Err Fault.Read → ⊥ }
     ensures memory { result ≡ Err Fault.NoMemory → ⊥ }
     ensures write { result ≡ Err Fault.Write → Rose (K.faults sink.old) (K.faults sink.new) }

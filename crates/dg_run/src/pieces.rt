@@ -1,6 +1,7 @@
 // Bytes of a buffer: where a line ends, and what a source adds.
 ghost use Rattle.std.specs.Prelude.{◌≡◌, ◌≢◌, ◌+◌, ◌≤◌, ◌<◌, ◌++◌, ◌∷◌, [], length, drop, take, slice_range, IfOk, IfSome, IfNone, OnOk, OnErr};
 ghost use Rattle.dg_io.specs.Faults.{HasCause};
+ghost use Rattle.dg_io.specs.SourceReads.{LeavesSource};
 ghost use Rattle.dg_io.specs.Told.{Told, IsSame, Gave};
 ghost use Rattle.dg_run.specs.Bytes.{HasNoLineFeed};
 ghost use Rattle.dg_run.specs.Scans.{Scanned};
@@ -45,6 +46,7 @@ pub fn look(bytes: &[u8], seen: usize, limit: usize) -> Scan
 }
 
 /// Reads bytes behind the first ones of a buffer, and answers how many.
+#[tactic(auto, using(crate::proofs::SourceSteps::reads_any, crate::proofs::SourceSteps::reads_some))]
 pub fn read_behind<S: Source>(
     source: &mut S,
     bytes: &mut Vec<u8>,
@@ -58,6 +60,8 @@ pub fn read_behind<S: Source>(
     ensures end { IfOk result (λ n. n ≡ 0 → Told (λ before after. before ≡ []) (S.left source.old) (S.left source.new)) }
     ensures err { OnErr result (Told IsSame (S.left source.old) (S.left source.new)) }
     ensures cause { HasCause (S.faults source.old) (S.faults source.new) result }
+    ensures reads { LeavesSource S.calls S.left 1 source.old source.new }
+    ensures gave_some { IfOk result (λ n. 0 < n → LeavesSource S.calls S.left 0 source.old source.new) }
 {
     source.read(&mut bytes[end..])
 }

@@ -1,5 +1,6 @@
 // The event that goes on without the lost boundaries.
 ghost use Rattle.std.specs.Prelude.{◌≡◌, ◌≤◌, OnOk};
+ghost use Rattle.dg_io.specs.SinkLines.{LeavesLines};
 ghost use Rattle.dg_model.specs.Causes.{Rose};
 ghost use Rattle.dg_model.specs.declared.events.Event.{Event};
 ghost use Rattle.dg_run.specs.Histories.{Continues, EventAnswered, EventCut, IsReady};
@@ -25,6 +26,7 @@ pub fn serve_regroup<R: Rack, K: Sink>(
     ensures wanting { result ≡ Err Fault.NoMemory → K.taken sink.new ≡ K.taken sink.old }
     ensures later { K.faults sink.old ≤ K.faults sink.new }
     ensures kept { (result ≡ Err Fault.Write → ⊥) → K.faults sink.new ≡ K.faults sink.old }
+    ensures lines { (result ≡ Err Fault.Write → ⊥) → LeavesLines 255 K.whole K.calls K.taken sink.old sink.new }
     ensures read { result ≡ Err Fault.Read → ⊥ }
     ensures write { result ≡ Err Fault.Write → Rose (K.faults sink.old) (K.faults sink.new) }
 {

@@ -1,5 +1,7 @@
 // A replay: the trace of the input on blank members.
 ghost use Rattle.std.specs.Prelude.{◌≡◌, ◌≤◌, ◌↔◌, ◌^◌, ℕ, List, Option, length, IfOk, OnErr, None};
+ghost use Rattle.dg_io.specs.SinkLines.{LeavesLines};
+ghost use Rattle.dg_io.specs.SourceReads.{LeavesSource};
 ghost use Rattle.dg_io.specs.Told.{Told, Took, TookPart, AreAny};
 ghost use Rattle.dg_model.specs.Causes.{Rose};
 ghost use Rattle.dg_model.specs.Shapes.{IsShape};
@@ -63,6 +65,7 @@ pub fn refuse<K: Sink>(sink: &mut K, number: u64, kind: BadLine) -> Status
     ensures never { IsOfReplay result }
     ensures later { K.faults sink.old ≤ K.faults sink.new }
     ensures kept { (result ≡ Status.WriteFault → ⊥) → K.faults sink.new ≡ K.faults sink.old }
+    ensures lines { (result ≡ Status.WriteFault → ⊥) → LeavesLines 255 K.whole K.calls K.taken sink.old sink.new }
 {
     match write_refusal(sink, number, kind) {
         Ok(()) => Status::BadLine,
@@ -100,6 +103,8 @@ fn serve_array<S: Source, K: Sink, R: Rack>(
     ensures sink_later { K.faults sink.old ≤ K.faults sink.new }
     ensures source_kept { (result ≡ Status.ReadFault → ⊥) → S.faults source.new ≡ S.faults source.old }
     ensures sink_kept { (result ≡ Status.WriteFault → ⊥) → K.faults sink.new ≡ K.faults sink.old }
+    ensures lines { (result ≡ Status.WriteFault → ⊥) → LeavesLines 255 K.whole K.calls K.taken sink.old sink.new }
+    ensures reads { LeavesSource S.calls S.left 1 source.old source.new }
     ensures never { IsOfReplay result }
 {
     let Ok(mut block) = vec![in alloc; 0u8; array.volume.shape().l as usize] else {
@@ -154,8 +159,11 @@ fn replay_array<S: Source, K: Sink, R: Rack + Drop>(
     ensures sink_later { K.faults sink.old ≤ K.faults sink.new }
     ensures source_kept { IfOk result (λ end. (end.status ≡ Status.ReadFault → ⊥) → S.faults source.new ≡ S.faults source.old) }
     ensures sink_kept { IfOk result (λ end. (end.status ≡ Status.WriteFault → ⊥) → K.faults sink.new ≡ K.faults sink.old) }
+    ensures lines { IfOk result (λ end. (end.status ≡ Status.WriteFault → ⊥) → LeavesLines 255 K.whole K.calls K.taken sink.old sink.new) }
+    ensures reads { LeavesSource S.calls S.left 1 source.old source.new }
     ensures err_source { OnErr result (S.faults source.new ≡ S.faults source.old) }
     ensures err_sink { OnErr result (K.faults sink.new ≡ K.faults sink.old) }
+    ensures err_lines { OnErr result (LeavesLines 255 K.whole K.calls K.taken sink.old sink.new) }
     ensures never { IfOk result (λ end. IsOfReplay end.status) }
 {
     let live = LiveRack::of_all(alloc, rack)?;
@@ -196,8 +204,11 @@ fn replay<S: Source, K: Sink, R: Rack + Drop>(
     ensures write { IfOk result (λ end. end.status ≡ Status.WriteFault → Rose (K.faults sink.old) (K.faults sink.new)) }
     ensures source_kept { IfOk result (λ end. (end.status ≡ Status.ReadFault → ⊥) → S.faults source.new ≡ S.faults source.old) }
     ensures sink_kept { IfOk result (λ end. (end.status ≡ Status.WriteFault → ⊥) → K.faults sink.new ≡ K.faults sink.old) }
+    ensures lines { IfOk result (λ end. (end.status ≡ Status.WriteFault → ⊥) → LeavesLines 255 K.whole K.calls K.taken sink.old sink.new) }
+    ensures reads { LeavesSource S.calls S.left 1 source.old source.new }
     ensures err_source { OnErr result (S.faults source.new ≡ S.faults source.old) }
     ensures err_sink { OnErr result (K.faults sink.new ≡ K.faults sink.old) }
+    ensures err_lines { OnErr result (LeavesLines 255 K.whole K.calls K.taken sink.old sink.new) }
     ensures never { IfOk result (λ end. IsOfReplay end.status) }
 {
     let mut input = Input::new(alloc)?;
@@ -233,6 +244,8 @@ pub fn serve_replay<S: Source, K: Sink, R: Rack>(
     ensures write { result ≡ Status.WriteFault → Rose (K.faults sink.old) (K.faults sink.new) }
     ensures source_kept { (result ≡ Status.ReadFault → ⊥) → S.faults source.new ≡ S.faults source.old }
     ensures sink_kept { (result ≡ Status.WriteFault → ⊥) → K.faults sink.new ≡ K.faults sink.old }
+    ensures lines { (result ≡ Status.WriteFault → ⊥) → LeavesLines 255 K.whole K.calls K.taken sink.old sink.new }
+    ensures reads { LeavesSource S.calls S.left 1 source.old source.new }
 {
     match replay(alloc, source, sink, &mut *rack) {
         Ok(end) => end.status,

@@ -1,5 +1,7 @@
 // A trace on the array that was saved.
 ghost use Rattle.std.specs.Prelude.{◌≡◌, ◌⊎◌, ◌≤◌, [], IfOk, OnErr};
+ghost use Rattle.dg_io.specs.SinkLines.{LeavesLines};
+ghost use Rattle.dg_io.specs.SourceReads.{LeavesSource};
 ghost use Rattle.dg_io.specs.Told.{Told, Took, TookPart};
 ghost use Rattle.dg_model.specs.Causes.{Rose};
 ghost use Rattle.dg_run.specs.Arrays.{IsOfReplay};
@@ -30,6 +32,7 @@ pub fn tell_no_state<K: Sink>(sink: &mut K) -> Status
     ensures part { result ≡ Status.WriteFault → Told (TookPart nostate_text) (K.taken sink.old) (K.taken sink.new) }
     ensures write { result ≡ Status.WriteFault → Rose (K.faults sink.old) (K.faults sink.new) }
     ensures kept { (result ≡ Status.WriteFault → ⊥) → K.faults sink.new ≡ K.faults sink.old }
+    ensures lines { (result ≡ Status.WriteFault → ⊥) → LeavesLines 255 K.whole K.calls K.taken sink.old sink.new }
 {
     match write_all(sink, b"nostate\n") {
         Ok(()) => Status::NoState,
@@ -44,6 +47,7 @@ pub fn tell_unclean<K: Sink>(sink: &mut K) -> Status
     ensures part { result ≡ Status.WriteFault → Told (TookPart unclean_text) (K.taken sink.old) (K.taken sink.new) }
     ensures write { result ≡ Status.WriteFault → Rose (K.faults sink.old) (K.faults sink.new) }
     ensures kept { (result ≡ Status.WriteFault → ⊥) → K.faults sink.new ≡ K.faults sink.old }
+    ensures lines { (result ≡ Status.WriteFault → ⊥) → LeavesLines 255 K.whole K.calls K.taken sink.old sink.new }
 {
     match write_all(sink, b"unclean\n") {
         Ok(()) => Status::Unclean,
@@ -80,6 +84,8 @@ fn resume_array<S: Source, K: Sink, R: Rack>(
     ensures write { result ≡ Status.WriteFault → Rose (K.faults sink.old) (K.faults sink.new) }
     ensures source_kept { (result ≡ Status.ReadFault → ⊥) → S.faults source.new ≡ S.faults source.old }
     ensures sink_kept { (result ≡ Status.WriteFault → ⊥) → K.faults sink.new ≡ K.faults sink.old }
+    ensures lines { (result ≡ Status.WriteFault → ⊥) → LeavesLines 255 K.whole K.calls K.taken sink.old sink.new }
+    ensures reads { LeavesSource S.calls S.left 1 source.old source.new }
     ensures never { IsOfReplay result }
 {
     let Ok(mut block) = vec![in alloc; 0u8; array.volume.shape().l as usize] else {
@@ -107,6 +113,8 @@ fn resume<S: Source, K: Sink, R: Rack + Drop>(
     ensures write { IfOk result (λ end. end.status ≡ Status.WriteFault → Rose (K.faults sink.old) (K.faults sink.new)) }
     ensures source_kept { IfOk result (λ end. (end.status ≡ Status.ReadFault → ⊥) → S.faults source.new ≡ S.faults source.old) }
     ensures sink_kept { IfOk result (λ end. (end.status ≡ Status.WriteFault → ⊥) → K.faults sink.new ≡ K.faults sink.old) }
+    ensures lines { IfOk result (λ end. (end.status ≡ Status.WriteFault → ⊥) → LeavesLines 255 K.whole K.calls K.taken sink.old sink.new) }
+    ensures reads { LeavesSource S.calls S.left 1 source.old source.new }
 {
     let mut input = Input::new(alloc)?;
     let live = LiveRack::of_all(alloc, rack)?;
@@ -144,6 +152,8 @@ pub fn serve_resume<S: Source, K: Sink, R: Rack>(
     ensures write { result ≡ Status.WriteFault → Rose (K.faults sink.old) (K.faults sink.new) }
     ensures source_kept { (result ≡ Status.ReadFault → ⊥) → S.faults source.new ≡ S.faults source.old }
     ensures sink_kept { (result ≡ Status.WriteFault → ⊥) → K.faults sink.new ≡ K.faults sink.old }
+    ensures lines { (result ≡ Status.WriteFault → ⊥) → LeavesLines 255 K.whole K.calls K.taken sink.old sink.new }
+    ensures reads { LeavesSource S.calls S.left 1 source.old source.new }
 {
     match resume(alloc, source, sink, &mut *rack) {
         Ok(end) => end.status,

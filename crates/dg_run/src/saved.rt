@@ -1,5 +1,6 @@
 // The commands that only read the array that was saved.
 ghost use Rattle.std.specs.Prelude.{◌≡◌, ◌↔◌, true};
+ghost use Rattle.dg_io.specs.SinkLines.{LeavesLines};
 ghost use Rattle.dg_model.specs.Causes.{Rose};
 ghost use Rattle.dg_run.specs.Ends.{EndsSaved, status_by};
 ghost use Rattle.dg_saved.specs.Calls.{facts_of};
@@ -40,6 +41,7 @@ pub fn serve_file<K: Sink, R: Rack>(
         (K.taken sink.old) (K.taken sink.new) result }
     ensures write { result ≡ Status.WriteFault → Rose (K.faults sink.old) (K.faults sink.new) }
     ensures kept { (result ≡ Status.WriteFault → ⊥) → K.faults sink.new ≡ K.faults sink.old }
+    ensures lines { (result ≡ Status.WriteFault → ⊥) → LeavesLines 1 K.whole K.calls K.taken sink.old sink.new }
     ensures read { result ≡ Status.ReadFault → ⊥ }
     ensures usage { result ≡ Status.Usage → ⊥ }
 {
@@ -61,6 +63,7 @@ pub fn serve_directory<K: Sink, R: Rack>(
         (K.taken sink.old) (K.taken sink.new) result }
     ensures write { result ≡ Status.WriteFault → Rose (K.faults sink.old) (K.faults sink.new) }
     ensures kept { (result ≡ Status.WriteFault → ⊥) → K.faults sink.new ≡ K.faults sink.old }
+    ensures lines { (result ≡ Status.WriteFault → ⊥) → LeavesLines 255 K.whole K.calls K.taken sink.old sink.new }
     ensures read { result ≡ Status.ReadFault → ⊥ }
     ensures usage { result ≡ Status.Usage → ⊥ }
 {
@@ -76,6 +79,7 @@ pub fn serve_status<K: Sink, R: Rack>(alloc: Global, sink: &mut K, rack: &mut R)
         (K.taken sink.old) (K.taken sink.new) result }
     ensures write { result ≡ Status.WriteFault → Rose (K.faults sink.old) (K.faults sink.new) }
     ensures kept { (result ≡ Status.WriteFault → ⊥) → K.faults sink.new ≡ K.faults sink.old }
+    ensures lines { (result ≡ Status.WriteFault → ⊥) → LeavesLines 255 K.whole K.calls K.taken sink.old sink.new }
     ensures read { result ≡ Status.ReadFault → ⊥ }
     ensures usage { result ≡ Status.Usage → ⊥ }
 {

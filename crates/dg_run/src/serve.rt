@@ -1,5 +1,6 @@
 // One event on an array, and its reply.
 ghost use Rattle.std.specs.Prelude.{◌≡◌, ◌≤◌, length, true, IfOk, OnOk, OnErr, Some};
+ghost use Rattle.dg_io.specs.SinkLines.{LeavesLines};
 ghost use Rattle.dg_model.specs.Causes.{Rose};
 ghost use Rattle.dg_text.specs.Lines.{IsInPlace};
 ghost use Rattle.dg_text.specs.Replies.{reply_line};
@@ -34,6 +35,7 @@ pub fn send<K: Sink>(sink: &mut K, reply: &Reply) -> Result<(), Fault>
     ensures part { OnErr result (Told (TookPart (reply_line reply.now)) (K.taken sink.old) (K.taken sink.new)) }
     ensures later { K.faults sink.old ≤ K.faults sink.new }
     ensures kept { OnOk result (K.faults sink.new ≡ K.faults sink.old) }
+    ensures lines { OnOk result (LeavesLines 255 K.whole K.calls K.taken sink.old sink.new) }
     ensures err { OnErr result (result ≡ Err Fault.Write) }
     ensures write { OnErr result (Rose (K.faults sink.old) (K.faults sink.new)) }
 {
@@ -49,6 +51,7 @@ fn send_data<K: Sink>(sink: &mut K, bytes: &[u8]) -> Result<(), Fault>
     ensures part { OnErr result (Told (TookPart (reply_line (Reply.Data bytes.now))) (K.taken sink.old) (K.taken sink.new)) }
     ensures later { K.faults sink.old ≤ K.faults sink.new }
     ensures kept { OnOk result (K.faults sink.new ≡ K.faults sink.old) }
+    ensures lines { OnOk result (LeavesLines 255 K.whole K.calls K.taken sink.old sink.new) }
     ensures err { OnErr result (result ≡ Err Fault.Write) }
     ensures write { OnErr result (Rose (K.faults sink.old) (K.faults sink.new)) }
 {
@@ -72,6 +75,7 @@ fn serve_read<R: Rack, K: Sink>(
     ensures part { result ≡ Err Fault.Write → AnsweredPart R.Rack (Event.Read b) (K.taken sink.old) (K.taken sink.new) array.old array.new }
     ensures later { K.faults sink.old ≤ K.faults sink.new }
     ensures kept { (result ≡ Err Fault.Write → ⊥) → K.faults sink.new ≡ K.faults sink.old }
+    ensures lines { (result ≡ Err Fault.Write → ⊥) → LeavesLines 255 K.whole K.calls K.taken sink.old sink.new }
     ensures read { result ≡ Err Fault.Read → ⊥ }
     ensures memory { result ≡ Err Fault.NoMemory → ⊥ }
     ensures write { result ≡ Err Fault.Write → Rose (K.faults sink.old) (K.faults sink.new) }
@@ -158,6 +162,7 @@ fn serve_plain<R: Rack, K: Sink>(
     ensures wanting { result ≡ Err Fault.NoMemory → K.taken sink.new ≡ K.taken sink.old }
     ensures later { K.faults sink.old ≤ K.faults sink.new }
     ensures kept { (result ≡ Err Fault.Write → ⊥) → K.faults sink.new ≡ K.faults sink.old }
+    ensures lines { (result ≡ Err Fault.Write → ⊥) → LeavesLines 255 K.whole K.calls K.taken sink.old sink.new }
     ensures read { result ≡ Err Fault.Read → ⊥ }
     ensures write { result ≡ Err Fault.Write → Rose (K.faults sink.old) (K.faults sink.new) }
 {
@@ -184,6 +189,7 @@ pub fn serve<R: Rack, K: Sink>(
     ensures wanting { result ≡ Err Fault.NoMemory → EventWanted R.Rack event.now (K.taken sink.old) (K.taken sink.new) array.old array.new }
     ensures later { K.faults sink.old ≤ K.faults sink.new }
     ensures kept { (result ≡ Err Fault.Write → ⊥) → K.faults sink.new ≡ K.faults sink.old }
+    ensures lines { (result ≡ Err Fault.Write → ⊥) → LeavesLines 255 K.whole K.calls K.taken sink.old sink.new }
     ensures read { result ≡ Err Fault.Read → ⊥ }
     ensures write { result ≡ Err Fault.Write → Rose (K.faults sink.old) (K.faults sink.new) }
 {

@@ -1,10 +1,12 @@
 // The top call.
 ghost use Rattle.std.specs.Prelude.{◌≡◌, ◌⊎◌, List, map, false, string_bytes};
+ghost use Rattle.dg_io.specs.SinkLines.{LeavesLines};
+ghost use Rattle.dg_io.specs.SourceReads.{LeavesSource};
 ghost use Rattle.dg_io.specs.Told.{Told, Took, TookPart};
 ghost use Rattle.dg_model.specs.Causes.{Rose};
 ghost use Rattle.dg_run.specs.Calls.{facts_of};
 ghost use Rattle.dg_run.specs.Completes.{Completes};
-ghost use Rattle.dg_run.specs.Ends.{AreNoCommand, Ends, EndsUsage, reads_input, uses_array};
+ghost use Rattle.dg_run.specs.Ends.{AreNoCommand, Ends, EndsUsage, line_bytes, reads_input, uses_array};
 ghost use Rattle.dg_run.specs.Statuses.{code_of};
 ghost use Rattle.dg_text.specs.Replies.{usage};
 ghost use Rattle.dg_words.specs.Commands.{HasValues, IsCommand, TakesMemory};
@@ -71,6 +73,7 @@ fn refuse_words<K: Sink>(sink: &mut K) -> Status
     ensures part { result ≡ Status.WriteFault → Told (TookPart usage) (K.taken sink.old) (K.taken sink.new) }
     ensures write { result ≡ Status.WriteFault → Rose (K.faults sink.old) (K.faults sink.new) }
     ensures kept { (result ≡ Status.WriteFault → ⊥) → K.faults sink.new ≡ K.faults sink.old }
+    ensures lines { (result ≡ Status.WriteFault → ⊥) → LeavesLines 255 K.whole K.calls K.taken sink.old sink.new }
 {
     match write_usage(sink) {
         Ok(()) => Status::Usage,
@@ -95,6 +98,8 @@ fn serve_command<S: Source, K: Sink, R: Rack>(
     ensures write { result ≡ Status.WriteFault → Rose (K.faults sink.old) (K.faults sink.new) }
     ensures source_kept { (result ≡ Status.ReadFault → ⊥) → S.faults source.new ≡ S.faults source.old }
     ensures sink_kept { (result ≡ Status.WriteFault → ⊥) → K.faults sink.new ≡ K.faults sink.old }
+    ensures lines { (result ≡ Status.WriteFault → ⊥) → LeavesLines (line_bytes asked.now) K.whole K.calls K.taken sink.old sink.new }
+    ensures reads { LeavesSource S.calls S.left 1 source.old source.new }
 {
     match asked {
         Command::Replay => serve_replay(alloc, source, sink, rack),
@@ -148,6 +153,13 @@ pub fn run<S: Source, K: Sink, R: Rack>(
     ensures write { result ≡ Status.WriteFault → Rose (K.faults sink.old) (K.faults sink.new) }
     ensures source_kept { (result ≡ Status.ReadFault → ⊥) → S.faults source.new ≡ S.faults source.old }
     ensures sink_kept { (result ≡ Status.WriteFault → ⊥) → K.faults sink.new ≡ K.faults sink.old }
+
+    // A call of the sink takes a line or so many bytes, and each read of the source but one takes a byte.
+    ensures lines { (command : Command) → IsCommand (map string_bytes words.now.items) command → (result ≡ Status.WriteFault → ⊥)
+        → LeavesLines (line_bytes command) K.whole K.calls K.taken sink.old sink.new }
+    ensures usage_lines { AreNoCommand (map string_bytes words.now.items) → (result ≡ Status.WriteFault → ⊥)
+        → LeavesLines 255 K.whole K.calls K.taken sink.old sink.new }
+    ensures reads { LeavesSource S.calls S.left 1 source.old source.new }
 
     // Where neither the source nor the sink fails, each command does what it is asked for, or says why it can't; or memory is wanting.
     ensures complete { (command : Command) → IsCommand (map string_bytes words.now.items) command

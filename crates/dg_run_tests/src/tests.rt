@@ -39,7 +39,7 @@ pub fn source_of(alloc: Global, input: &[u8], fails: &[u64]) -> Result<MemSource
     Ok(MemSource::new(bytes, Vec::from_slice(alloc, fails)?))
 }
 
-fn sink_of(alloc: Global, fails: &[u64]) -> Result<MemSink, Fail> {
+pub fn sink_of(alloc: Global, fails: &[u64]) -> Result<MemSink, Fail> {
     Ok(MemSink::new(alloc, OUTPUT, Vec::from_slice(alloc, fails)?)?)
 }
 

@@ -1,8 +1,10 @@
 // The runs of a client that concludes from the clauses of `run` what they print.
+use crate::tests::{rack_of, sink_of, source_of, words_of};
 use dg_run::Status;
 use dg_uses::{
-    audit_a_blank_array, fail_at_the_first_reply, find_no_array, lose_a_block, read_past_a_failure,
-    read_what_was_written, refuse_an_empty_image, refuse_the_second_line,
+    audit_a_blank_array, fail_at_the_first_reply, fail_at_the_second_read, find_no_array,
+    lose_a_block, read_past_a_failure, read_what_was_written, refuse_an_empty_image,
+    refuse_the_second_line, save_and_resume,
 };
 use std::test::Fail;
 
@@ -51,6 +53,41 @@ fn a_sink_fails_at_the_first_reply(rt: HostRuntime) -> Result<(), Fail> {
     let end = fail_at_the_first_reply(rt.alloc())?;
     assert_eq!(rt; end.status, Status::WriteFault);
     assert!(rt; end.sink.taken().is_empty());
+    Ok(())
+}
+
+#[test]
+fn a_source_fails_at_the_second_read(rt: HostRuntime) -> Result<(), Fail> {
+    let end = fail_at_the_second_read(rt.alloc())?;
+    assert_eq!(rt; end.status, Status::ReadFault);
+    assert!(rt; end.sink.taken() == "ok\nok\ndata 6869\n".as_bytes());
+    Ok(())
+}
+
+#[test]
+fn a_saved_block_is_read(rt: HostRuntime) -> Result<(), Fail> {
+    let alloc = rt.alloc();
+    let replay = words_of(alloc, &["replay"])?;
+    let mut source = source_of(alloc, b"array 1024 64 4 32 2\nwrite 3 6869\nsave\n", &[])?;
+    let mut sink = sink_of(alloc, &[])?;
+    let resume = words_of(alloc, &["resume"])?;
+    let mut more = source_of(alloc, b"read 3\n", &[])?;
+    let mut text = sink_of(alloc, &[])?;
+    let mut rack = rack_of(alloc, &[])?;
+    let (saved, resumed) = save_and_resume(
+        alloc,
+        &replay,
+        &mut source,
+        &mut sink,
+        &resume,
+        &mut more,
+        &mut text,
+        &mut rack,
+    );
+    assert_eq!(rt; saved, Status::Done);
+    assert_eq!(rt; resumed, Status::Done);
+    assert!(rt; sink.taken() == "ok\nok\nsaved 1\n".as_bytes());
+    assert!(rt; text.taken() == "data 6869\n".as_bytes());
     Ok(())
 }
 

@@ -1,3 +1,4 @@
+mod Calls
 mod Opened
 mod Places
 mod Served

@@ -1,5 +1,6 @@
 // How a command on a saved array ends.
-ghost use Rattle.std.specs.Prelude.{◌≡◌, ◌≢◌, ◌⊎◌};
+ghost use Rattle.std.specs.Prelude.{◌≡◌, ◌≢◌, ◌⊎◌, ℕ};
+ghost use Rattle.dg_io.specs.SinkLines.{LeavesLines, MayWrite};
 ghost use Rattle.dg_io.specs.Told.{Told, Took, TookPart};
 ghost use Rattle.dg_model.specs.Causes.{Rose};
 
@@ -37,6 +38,7 @@ pub fn tell<K: Sink>(sink: &mut K, text: &[u8], end: SavedEnd) -> SavedEnd
     ensures part { result ≡ SavedEnd.WriteFault → Told (TookPart text.now) (K.taken sink.old) (K.taken sink.new) }
     ensures write { result ≡ SavedEnd.WriteFault → Rose (K.faults sink.old) (K.faults sink.new) }
     ensures kept { result ≢ SavedEnd.WriteFault → K.faults sink.new ≡ K.faults sink.old }
+    ensures lines { (w : ℕ) → MayWrite w 1 text.now → result ≢ SavedEnd.WriteFault → LeavesLines w K.whole K.calls K.taken sink.old sink.new }
 {
     match write_all(sink, text) {
         Ok(()) => end,

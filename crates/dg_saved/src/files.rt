@@ -1,5 +1,6 @@
 // Files of a saved array.
 ghost use Rattle.std.specs.Prelude.{◌≡◌, ◌≢◌, true, IfOk, OnErr};
+ghost use Rattle.dg_io.specs.SinkLines.{LeavesLines};
 ghost use Rattle.dg_model.specs.Causes.{Rose};
 ghost use Rattle.dg_model.specs.declared.events.Event.{Event};
 ghost use Rattle.dg_saved.specs.Calls.{facts_of};
@@ -28,6 +29,7 @@ fn serve_cat<K: Sink, R: Rack>(
     ensures ends { EndsServed R.Rack volume.old (Event.Cat path.now) cat_text gives_file (K.taken sink.old) (K.taken sink.new) volume.new result }
     ensures write { result ≡ SavedEnd.WriteFault → Rose (K.faults sink.old) (K.faults sink.new) }
     ensures kept { result ≢ SavedEnd.WriteFault → K.faults sink.new ≡ K.faults sink.old }
+    ensures lines { result ≢ SavedEnd.WriteFault → LeavesLines 1 K.whole K.calls K.taken sink.old sink.new }
 {
     let mut bytes = Raw::new(&mut *sink);
     match volume.cat(path, &mut bytes) {
@@ -55,6 +57,7 @@ pub fn cat_saved<K: Sink, R: Rack + Drop>(
     ensures none { OnErr result (sink.new ≡ sink.old) }
     ensures write { IfOk result (λ ended. ended.end ≡ SavedEnd.WriteFault → Rose (K.faults sink.old) (K.faults sink.new)) }
     ensures kept { IfOk result (λ ended. ended.end ≢ SavedEnd.WriteFault → K.faults sink.new ≡ K.faults sink.old) }
+    ensures lines { IfOk result (λ ended. ended.end ≢ SavedEnd.WriteFault → LeavesLines 1 K.whole K.calls K.taken sink.old sink.new) }
 {
     match open(alloc, rack)? {
         OpenAnswer::NoState(rack) => Ok(Ended {

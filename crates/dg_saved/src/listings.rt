@@ -1,5 +1,6 @@
 // Directories of a saved array.
 ghost use Rattle.std.specs.Prelude.{◌≡◌, ◌≢◌, true, IfOk, OnErr};
+ghost use Rattle.dg_io.specs.SinkLines.{LeavesLines};
 ghost use Rattle.dg_model.specs.Causes.{Rose};
 ghost use Rattle.dg_model.specs.declared.events.Event.{Event};
 ghost use Rattle.dg_saved.specs.Calls.{facts_of};
@@ -29,6 +30,7 @@ fn serve_ls<K: Sink, R: Rack>(
     ensures ends { EndsServed R.Rack volume.old (Event.Ls path.now) ls_text gives_listing (K.taken sink.old) (K.taken sink.new) volume.new result }
     ensures write { result ≡ SavedEnd.WriteFault → Rose (K.faults sink.old) (K.faults sink.new) }
     ensures kept { result ≢ SavedEnd.WriteFault → K.faults sink.new ≡ K.faults sink.old }
+    ensures lines { result ≢ SavedEnd.WriteFault → LeavesLines 255 K.whole K.calls K.taken sink.old sink.new }
 {
     let mut entries = Lines::new(&mut *sink, Form::Directory);
     match volume.ls(path, &mut entries) {
@@ -59,6 +61,7 @@ pub fn ls_saved<K: Sink, R: Rack + Drop>(
     ensures none { OnErr result (sink.new ≡ sink.old) }
     ensures write { IfOk result (λ ended. ended.end ≡ SavedEnd.WriteFault → Rose (K.faults sink.old) (K.faults sink.new)) }
     ensures kept { IfOk result (λ ended. ended.end ≢ SavedEnd.WriteFault → K.faults sink.new ≡ K.faults sink.old) }
+    ensures lines { IfOk result (λ ended. ended.end ≢ SavedEnd.WriteFault → LeavesLines 255 K.whole K.calls K.taken sink.old sink.new) }
 {
     match open(alloc, rack)? {
         OpenAnswer::NoState(rack) => Ok(Ended {

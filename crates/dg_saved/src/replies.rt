@@ -1,6 +1,7 @@
 // The reply at a path that gave nothing.
-ghost use Rattle.std.specs.Prelude.{◌≡◌, IsSome, Some, OnOk, OnErr};
+ghost use Rattle.std.specs.Prelude.{◌≡◌, ℕ, IsSome, Some, OnOk, OnErr};
 ghost use Rattle.dg_io.specs.Faults.{HasCause};
+ghost use Rattle.dg_io.specs.SinkLines.{LeavesLines};
 ghost use Rattle.dg_io.specs.Told.{Told, Took, TookPart};
 ghost use Rattle.dg_model.specs.declared.replies.Reply.{Reply};
 ghost use Rattle.dg_saved.specs.Serves.{reply_at};
@@ -34,6 +35,7 @@ pub fn write_nothing<K: Sink>(sink: &mut K, answer: CatAnswer) -> Result<(), Fai
     ensures err { (reply : Reply) → reply_at answer ≡ Some reply
         → OnErr result (Told (TookPart (reply_line reply)) (K.taken sink.old) (K.taken sink.new)) }
     ensures cause { HasCause (K.faults sink.old) (K.faults sink.new) result }
+    ensures lines { (w : ℕ) → OnOk result (LeavesLines w K.whole K.calls K.taken sink.old sink.new) }
 {
     let reply = reply_at(answer);
     write_reply(sink, &reply)

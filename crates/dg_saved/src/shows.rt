@@ -1,5 +1,6 @@
 // The state of a saved array.
 ghost use Rattle.std.specs.Prelude.{◌≡◌, ◌≢◌, IfOk, OnErr};
+ghost use Rattle.dg_io.specs.SinkLines.{LeavesLines};
 ghost use Rattle.dg_model.specs.Causes.{Rose};
 ghost use Rattle.dg_saved.specs.Calls.{facts_of};
 ghost use Rattle.dg_saved.specs.Ends.{EndsStatus};
@@ -21,6 +22,7 @@ pub fn show_status<K: Sink, R: Rack + Drop>(
     ensures none { OnErr result (sink.new ≡ sink.old) }
     ensures write { IfOk result (λ ended. ended.end ≡ SavedEnd.WriteFault → Rose (K.faults sink.old) (K.faults sink.new)) }
     ensures kept { IfOk result (λ ended. ended.end ≢ SavedEnd.WriteFault → K.faults sink.new ≡ K.faults sink.old) }
+    ensures lines { IfOk result (λ ended. ended.end ≢ SavedEnd.WriteFault → LeavesLines 255 K.whole K.calls K.taken sink.old sink.new) }
 {
     match open(alloc, rack)? {
         OpenAnswer::NoState(rack) => Ok(Ended {

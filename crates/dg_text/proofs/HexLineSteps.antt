@@ -7,6 +7,7 @@ use Rattle.std.proofs.lemmas.List.Elements.{All-nil, All-cons, All-head, All-tai
 use Rattle.std.proofs.lemmas.List.Folds.{concat-append}
 use Rattle.std.proofs.lemmas.Grind.{flat_map-append}
 use Rattle.dg_io.specs.SinkCalls.{LeavesSink}
+use Rattle.dg_io.specs.SinkLines.{MayWrite, feeds_in, lines_both, lines_of_text}
 use Rattle.dg_io.specs.Told.{Told, Took, TookPart}
 use Rattle.dg_io.specs.declared.outside.Sink.{Ghosts}
 use Rattle.dg_model.specs.Lists.{AreLines}
@@ -16,7 +17,9 @@ use Rattle.dg_text.specs.HexLineLaws.{waits_short}
 use Rattle.dg_text.specs.LineCalls.{bytes_calls}
 use Rattle.dg_text.specs.SinkCallSteps.{leaves_both, leaves_more}
 use Rattle.dg_text.specs.ToldSteps.{took_both, took_part_after}
+use Rattle.dg_text.specs.LineWeights.{may_both, may_each, may_line}
 use Rattle.dg_text.proofs.Pieces.{pieces_one}
+use Rattle.dg_text.proofs.ReplyWeights.{bytes_feed}
 use Rattle.dg_text.specs.declared.hex_lines.HexLines.{HexLines}
 
 -- ---- a line that is full
@@ -51,6 +54,8 @@ line_written sink old new front line l same used is full told calls =
       short = waits_short new;
       told = subst P (sym (one_line line)) told;
       calls = subst Q (sym (one_line line)) calls;
+      few_lines = lines_of_text 255 sink.whole sink.calls sink.taken 1 (length (bytes_line line)) (bytes_line line) old.sink.now new.sink.now
+          (may_line 255 (bytes_line line) (bytes_feed line)) calls told;
     }
 
 pub line_part : {K : Type 0} (sink : Ghosts K) (old new : HexLines K) (bytes line : List ℕ) (count : ℕ) → new.l ≡ old.l → new.sink.ghost_name ≡ old.sink.ghost_name
@@ -123,11 +128,16 @@ ended_calls sink lines rest last a b c first second =
     (omega (arith, length-append lines (rest_lines rest))) (omega (arith, sizes))
     (leaves_both sink.whole sink.calls (length lines) (length (file_text lines)) (length (rest_lines rest) + 1) (length (file_text (rest_lines rest) ++ last)) a b c first second)
 
-pub ends : {K : Type 0} (sink : Ghosts K) (old new : HexLines K) (last : List ℕ)
+-- the line of the bytes that wait, and the last
+rest_weight : (rest last : List ℕ) → 1 ≤ feeds_in last → MayWrite 255 (length (rest_lines rest) + 1) (file_text (rest_lines rest) ++ last)
+rest_weight rest last feed =
+    may_both (length (rest_lines rest)) 1 (file_text (rest_lines rest)) last (may_each bytes_line (rest_lines rest) bytes_feed) (may_line 255 last feed)
+
+pub ends : {K : Type 0} (sink : Ghosts K) (old new : HexLines K) (last : List ℕ) → 1 ≤ feeds_in last
     → Told (Took (file_text (rest_lines (waiting old)) ++ last)) (sink.taken old.sink.now) (sink.taken new.sink.now)
     → LeavesSink sink.whole sink.calls (length (rest_lines (waiting old)) + 1) (length (file_text (rest_lines (waiting old)) ++ last)) old.sink.now new.sink.now
     → Ends sink last old new
-ends sink old new last told calls start bytes nothing took =
+ends sink old new last feed told calls start bytes nothing took =
     let P : List ℕ → Type 0 = λ s. Told (Took s) (sink.taken start.sink.now) (sink.taken new.sink.now) in
     let short = took.short in
     let same = took.l in
@@ -138,6 +148,9 @@ ends sink old new last told calls start bytes nothing took =
       told = subst P (text_ended took.lines (waiting old) last)
           (took_both (file_text took.lines) (file_text (rest_lines (waiting old)) ++ last) (sink.taken start.sink.now) (sink.taken old.sink.now) (sink.taken new.sink.now) took.told told);
       calls = ended_calls sink took.lines (waiting old) last start.sink.now old.sink.now new.sink.now took.calls calls;
+      few_lines = lines_both 255 sink.whole sink.calls sink.taken start.sink.now old.sink.now new.sink.now took.few_lines
+          (lines_of_text 255 sink.whole sink.calls sink.taken (length (rest_lines (waiting old)) + 1) (length (file_text (rest_lines (waiting old)) ++ last))
+          (file_text (rest_lines (waiting old)) ++ last) old.sink.now new.sink.now (rest_weight (waiting old) last feed) calls told);
     }
 
 pub ends_part : {K : Type 0} (sink : Ghosts K) (old new : HexLines K) (last : List ℕ)

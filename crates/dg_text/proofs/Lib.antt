@@ -16,3 +16,4 @@ mod ReplyLines
 mod Pieces
 mod CallSums
 mod ReplyCalls
+mod ReplyWeights

@@ -105,6 +105,15 @@ length-path_word (x ∷ path) =
     let size = length-append (spelled_byte x) (path_word path) in
     rw (path_word_first x path) (omega arith)
 
+-- a path's word has a byte for each of its bytes
+pub path_word_longer : (path : List ℕ) → length path ≤ length (path_word path)
+path_word_longer [] = omega arith
+path_word_longer (x ∷ path) =
+    let first = spelled_length x (is_plain x) refl in
+    let more = path_word_longer path in
+    let size = length-append (spelled_byte x) (path_word path) in
+    rw (path_word_first x path) (omega arith)
+
 -- a word that is empty spells no byte
 pub path_none : (path : List ℕ) → [] ≡ path_word path → path ≡ []
 path_none [] is = refl

@@ -6,6 +6,7 @@ use Rattle.std.proofs.lemmas.List.Elements.{All-nil, All-append}
 use Rattle.std.proofs.lemmas.List.Folds.{concat-append}
 use Rattle.std.proofs.lemmas.Grind.{flat_map-append}
 use Rattle.dg_io.specs.SinkCalls.{LeavesSink}
+use Rattle.dg_io.specs.SinkLines.{lines_both, lines_none}
 use Rattle.dg_io.specs.Told.{Told, Took, TookPart}
 use Rattle.dg_io.specs.declared.outside.Sink.{Ghosts}
 use Rattle.dg_text.specs.Replies.{bytes_line, file_text}
@@ -57,6 +58,7 @@ took_nothing sink s = record {
   short = waits_short s;
   told = took_none (sink.taken s.sink.now);
   calls = leaves_none sink.whole sink.calls s.sink.now;
+  few_lines = lines_none 255 sink.whole sink.calls sink.taken s.sink.now;
 }
 
 pub took_then : {K : Type 0} (sink : Ghosts K) (a b c : HexLines K) (x y : List ℕ) → TookBytes sink a x b → TookBytes sink b y c → TookBytes sink a (x ++ y) c
@@ -72,6 +74,7 @@ took_then sink a b c x y first second =
       told = subst Q (text_both first.lines second.lines)
           (took_both (file_text first.lines) (file_text second.lines) (sink.taken a.sink.now) (sink.taken b.sink.now) (sink.taken c.sink.now) first.told second.told);
       calls = calls_both sink first.lines second.lines a.sink.now b.sink.now c.sink.now first.calls second.calls;
+      few_lines = lines_both 255 sink.whole sink.calls sink.taken a.sink.now b.sink.now c.sink.now first.few_lines second.few_lines;
     }
 
 pub took_then_part : {K : Type 0} (sink : Ghosts K) (a b c : HexLines K) (x y : List ℕ) → TookBytes sink a x b → TookBytesPart sink b y c → TookBytesPart sink a (x ++ y) c

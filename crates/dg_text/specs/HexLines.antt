@@ -3,6 +3,7 @@ use Rattle.std.specs.Prelude.{◌≡◌, ◌<◌, ◌+◌, ℕ, List, [], ◌∷
 use Rattle.std.specs.List.{concat}
 use Rattle.std.specs.Fmt.{decimal}
 use Rattle.dg_io.specs.SinkCalls.{LeavesSink}
+use Rattle.dg_io.specs.SinkLines.{LeavesLines}
 use Rattle.dg_io.specs.Told.{Told, Took, TookPart}
 use Rattle.dg_io.specs.declared.outside.Sink.{Ghosts}
 use Rattle.dg_model.specs.Lists.{AreLines}
@@ -39,6 +40,7 @@ pub record TookBytes {K : Type 0} (sink : Ghosts K) (old : HexLines K) (bytes : 
   pub short : length (waiting new) < new.l
   pub told : Told (Took (file_text lines)) (sink.taken old.sink.now) (sink.taken new.sink.now)
   pub calls : LeavesSink sink.whole sink.calls (length lines) (length (file_text lines)) old.sink.now new.sink.now
+  pub few_lines : LeavesLines 255 sink.whole sink.calls sink.taken old.sink.now new.sink.now
 
 -- it was handed bytes, and wrote a part of the lines that became full
 pub record TookBytesPart {K : Type 0} (sink : Ghosts K) (old : HexLines K) (bytes : List ℕ) (new : HexLines K) : Type 0 where
@@ -57,6 +59,7 @@ pub record WroteFile {K : Type 0} (sink : Ghosts K) (start : HexLines K) (bytes 
   pub whole : concat lines ≡ bytes
   pub told : Told (Took (file_text lines ++ last)) (sink.taken start.sink.now) (sink.taken new.sink.now)
   pub calls : LeavesSink sink.whole sink.calls (length lines + 1) (length (file_text lines ++ last)) start.sink.now new.sink.now
+  pub few_lines : LeavesLines 255 sink.whole sink.calls sink.taken start.sink.now new.sink.now
 
 -- a part of them was written
 pub record WroteFilePart {K : Type 0} (sink : Ghosts K) (start : HexLines K) (bytes last : List ℕ) (new : HexLines K) : Type 0 where

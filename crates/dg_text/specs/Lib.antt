@@ -1,6 +1,7 @@
 pub mod HexLineLaws
 pub mod HexLines
 pub mod LineCalls
+pub mod LineWeights
 pub mod Lines
 pub mod ListingLineLaws
 pub mod ListingLines

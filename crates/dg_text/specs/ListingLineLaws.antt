@@ -1,6 +1,7 @@
 -- How what a receiver takes goes on from some entries to the next.
 use Rattle.std.proofs.Common.{◌≡◌, ◌≤◌, List, [], ◌++◌, length, length-append, refl, sym, ◌∙◌, subst, arith}
 use Rattle.std.proofs.lemmas.Grind.{flat_map-append}
+use Rattle.dg_io.specs.SinkLines.{lines_both as lines_on, lines_none}
 use Rattle.dg_io.specs.declared.outside.Sink.{Ghosts}
 use Rattle.dg_text.specs.Replies.{entry_line, node_line}
 use Rattle.dg_text.specs.Listings.{lines_in}
@@ -22,7 +23,7 @@ no_lines Volume = refl
 pub took_no_entry : {K : Type 0} (sink : Ghosts K) (s : Lines K) → TookEntries sink s [] s
 took_no_entry sink s =
     let none = wrote_none sink (lines_in s.form []) 0 s.sink.now (no_lines s.form) in
-    record { form = refl; same = refl; told = none.0; calls = none.1 }
+    record { form = refl; same = refl; told = none.0; calls = none.1; few_lines = lines_none 255 sink.whole sink.calls sink.taken s.sink.now }
 
 pub took_entries : {K : Type 0} (sink : Ghosts K) (a b c : Lines K) (x y : List Listed) → TookEntries sink a x b → TookEntries sink b y c → TookEntries sink a (x ++ y) c
 took_entries sink a b c x y first second =
@@ -30,7 +31,13 @@ took_entries sink a b c x y first second =
     let all =
     wrote_both sink (lines_in a.form x) (lines_in a.form y) (lines_in a.form (x ++ y)) (length x) (length y) (length (x ++ y)) a.sink.now b.sink.now c.sink.now
     (lines_both a.form x y) (sym (length-append x y)) (first.told, first.calls) (subst P first.form (second.told, second.calls)) in
-    record { form = second.form ∙ first.form; same = second.same ∙ first.same; told = all.0; calls = all.1 }
+    record {
+      form = second.form ∙ first.form;
+      same = second.same ∙ first.same;
+      told = all.0;
+      calls = all.1;
+      few_lines = lines_on 255 sink.whole sink.calls sink.taken a.sink.now b.sink.now c.sink.now first.few_lines second.few_lines;
+    }
 
 pub took_entries_part : {K : Type 0} (sink : Ghosts K) (a b c : Lines K) (x y : List Listed) → TookEntries sink a x b → TookEntriesPart sink b y c → TookEntriesPart sink a (x ++ y) c
 took_entries_part sink a b c x y first second =

@@ -1,6 +1,7 @@
 -- What a receiver wrote that puts the entries of a listing into lines.
 use Rattle.std.specs.Prelude.{◌≡◌, ℕ, List, length}
 use Rattle.dg_io.specs.SinkCalls.{LeavesSink}
+use Rattle.dg_io.specs.SinkLines.{LeavesLines}
 use Rattle.dg_io.specs.Told.{Told, Took, TookPart}
 use Rattle.dg_io.specs.declared.outside.Sink.{Ghosts}
 use Rattle.dg_text.specs.Listings.{lines_in}
@@ -26,6 +27,7 @@ pub record TookEntries {K : Type 0} (sink : Ghosts K) (old : Lines K) (entries :
   pub same : new.sink.ghost_name ≡ old.sink.ghost_name
   pub told : Told (Took (lines_in old.form entries)) (sink.taken old.sink.now) (sink.taken new.sink.now)
   pub calls : LeavesSink sink.whole sink.calls (length entries) (length (lines_in old.form entries)) old.sink.now new.sink.now
+  pub few_lines : LeavesLines 255 sink.whole sink.calls sink.taken old.sink.now new.sink.now
 
 -- it was handed entries, and wrote a part of their lines
 pub record TookEntriesPart {K : Type 0} (sink : Ghosts K) (old : Lines K) (entries : List Listed) (new : Lines K) : Type 0 where

@@ -2,6 +2,7 @@
 use Rattle.std.specs.Prelude.{◌≡◌, ℕ, List, length}
 use Rattle.std.specs.List.{sum_by}
 use Rattle.dg_io.specs.SinkCalls.{LeavesSink}
+use Rattle.dg_io.specs.SinkLines.{LeavesLines}
 use Rattle.dg_io.specs.Told.{Told, Took, TookPart}
 use Rattle.dg_io.specs.declared.outside.Sink.{Ghosts}
 use Rattle.dg_model.specs.Paths.{PathOf}
@@ -22,6 +23,7 @@ pub record TookLost {K : Type 0} (sink : Ghosts K) (old : LostLines K) (files : 
   pub same : new.sink.ghost_name ≡ old.sink.ghost_name
   pub told : Told (Took (lost_text files)) (sink.taken old.sink.now) (sink.taken new.sink.now)
   pub calls : LeavesSink sink.whole sink.calls (sum_by path_calls files) (length (lost_text files)) old.sink.now new.sink.now
+  pub few_lines : LeavesLines 255 sink.whole sink.calls sink.taken old.sink.now new.sink.now
 
 -- it was handed files, and wrote a part of their lines
 pub record TookLostPart {K : Type 0} (sink : Ghosts K) (old : LostLines K) (files : List PathOf) (new : LostLines K) : Type 0 where

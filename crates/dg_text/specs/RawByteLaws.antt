@@ -1,6 +1,7 @@
 -- How what a receiver takes goes on from one piece to the next.
 use Rattle.std.proofs.Common.{ℕ, List, [], ◌++◌, length, length-append, refl, sym, ◌∙◌, subst, arith}
 use Rattle.dg_io.specs.SinkCalls.{LeavesSink}
+use Rattle.dg_io.specs.SinkLines.{lines_both, lines_none}
 use Rattle.dg_io.specs.declared.outside.Sink.{Ghosts}
 use Rattle.dg_text.specs.SinkCallSteps.{leaves_both, leaves_more, leaves_none}
 use Rattle.dg_text.specs.RawBytes.{TookRaw, TookRawPart}
@@ -19,6 +20,7 @@ took_raw_none sink s = record {
   same = refl;
   told = took_none (sink.taken s.sink.now);
   calls = leaves_none sink.whole sink.calls s.sink.now;
+  few_lines = lines_none 1 sink.whole sink.calls sink.taken s.sink.now;
 }
 
 pub took_raw_then : {K : Type 0} (sink : Ghosts K) (a b c : Raw K) (x y : List ℕ) → TookRaw sink a x b → TookRaw sink b y c → TookRaw sink a (x ++ y) c
@@ -26,6 +28,7 @@ took_raw_then sink a b c x y first second = record {
   same = second.same ∙ first.same;
   told = took_both x y (sink.taken a.sink.now) (sink.taken b.sink.now) (sink.taken c.sink.now) first.told second.told;
   calls = calls_on sink x y a.sink.now b.sink.now c.sink.now first.calls second.calls;
+  few_lines = lines_both 1 sink.whole sink.calls sink.taken a.sink.now b.sink.now c.sink.now first.few_lines second.few_lines;
 }
 
 pub took_raw_then_part : {K : Type 0} (sink : Ghosts K) (a b c : Raw K) (x y : List ℕ) → TookRaw sink a x b → TookRawPart sink b y c → TookRawPart sink a (x ++ y) c

@@ -4,6 +4,7 @@ ghost use Rattle.std.specs.Fmt.{decimal};
 ghost use Rattle.dg_io.specs.Told.{Told, Took, TookPart};
 ghost use Rattle.dg_io.specs.Faults.{HasCause};
 ghost use Rattle.dg_io.specs.SinkCalls.{LeavesSink};
+ghost use Rattle.dg_io.specs.SinkLines.{LeavesLines};
 ghost use Rattle.dg_text.specs.LineCalls.{calls_of};
 ghost use Rattle.dg_text.specs.Replies.{finding_line, findings_text, reply_line};
 ghost use Rattle.dg_model.specs.declared.replies.Reply.{Reply};
@@ -19,6 +20,7 @@ pub fn write_audit<K: Sink>(sink: &mut K, findings: &[Finding]) -> Result<(), Fa
     ensures err { OnErr result (Told (TookPart (reply_line (Reply.Audited findings.now))) (K.taken sink.old) (K.taken sink.new)) }
     ensures cause { HasCause (K.faults sink.old) (K.faults sink.new) result }
     ensures calls { LeavesSink K.whole K.calls (calls_of (Reply.Audited findings.now)) (length (reply_line (Reply.Audited findings.now))) sink.old sink.new }
+    ensures lines { OnOk result (LeavesLines 255 K.whole K.calls K.taken sink.old sink.new) }
 {
     write_findings(sink, findings)?;
     write_number(sink, b"end ", findings.len() as u128)

@@ -4,6 +4,7 @@ ghost use Rattle.std.specs.Fmt.{decimal};
 ghost use Rattle.dg_io.specs.Told.{Told, Took, TookPart};
 ghost use Rattle.dg_io.specs.Faults.{HasCause};
 ghost use Rattle.dg_io.specs.SinkCalls.{LeavesSink};
+ghost use Rattle.dg_io.specs.SinkLines.{LeavesLines};
 
 use crate::replies::put;
 use dg_io::{Sink, write_all};
@@ -23,6 +24,7 @@ pub fn write_number<K: Sink>(sink: &mut K, word: &[u8], n: u128) -> Result<(), F
     ensures err { OnErr result (Told (TookPart (word.now ++ (decimal n ++ codes "\n"))) (K.taken sink.old) (K.taken sink.new)) }
     ensures cause { HasCause (K.faults sink.old) (K.faults sink.new) result }
     ensures calls { LeavesSink K.whole K.calls 1 (length (word.now ++ (decimal n ++ codes "\n"))) sink.old sink.new }
+    ensures lines { OnOk result (LeavesLines 255 K.whole K.calls K.taken sink.old sink.new) }
 {
     let mut line = [0u8; NUMBER_ROOM];
     let end = spell_number(&mut line, word, n);

@@ -19,6 +19,7 @@ impl<'a, K: Sink> Lines<'a, K> {
     ghost use Rattle.dg_io.specs.Told.{Told, Took, TookPart};
     ghost use Rattle.dg_io.specs.Faults.{HasCause};
     ghost use Rattle.dg_io.specs.SinkCalls.{LeavesSink};
+    ghost use Rattle.dg_io.specs.SinkLines.{LeavesLines};
     ghost use Rattle.dg_text.specs.ListingLines.{form_of, loan_of, sink_of};
     ghost use Rattle.dg_text.specs.HexLines.{last_line};
 
@@ -38,6 +39,7 @@ impl<'a, K: Sink> Lines<'a, K> {
         ensures sink { loan_of self.new ≡ loan_of self.old }
         ensures cause { HasCause (K.faults (sink_of self.old)) (K.faults (sink_of self.new)) result }
         ensures calls { LeavesSink K.whole K.calls 1 (length (last_line (codes "end ") n)) (sink_of self.old) (sink_of self.new) }
+        ensures lines { OnOk result (LeavesLines 255 K.whole K.calls K.taken (sink_of self.old) (sink_of self.new)) }
     {
         write_number(&mut *self.sink, b"end ", n as u128)
     }
@@ -49,6 +51,7 @@ impl<'a, K: Sink> Lines<'a, K> {
         ensures sink { loan_of self.new ≡ loan_of self.old }
         ensures cause { HasCause (K.faults (sink_of self.old)) (K.faults (sink_of self.new)) result }
         ensures calls { LeavesSink K.whole K.calls 1 (length (last_line (codes "cut ") n)) (sink_of self.old) (sink_of self.new) }
+        ensures lines { OnOk result (LeavesLines 255 K.whole K.calls K.taken (sink_of self.old) (sink_of self.new)) }
     {
         write_number(&mut *self.sink, b"cut ", n as u128)
     }

@@ -17,6 +17,7 @@ impl<'a, K: Sink> LostLines<'a, K> {
     ghost use Rattle.dg_io.specs.Told.{Told, Took, TookPart};
     ghost use Rattle.dg_io.specs.Faults.{HasCause};
     ghost use Rattle.dg_io.specs.SinkCalls.{LeavesSink};
+    ghost use Rattle.dg_io.specs.SinkLines.{LeavesLines};
     ghost use Rattle.dg_text.specs.LostLines.{lost_loan_of, lost_sink_of};
     ghost use Rattle.dg_text.specs.HexLines.{last_line};
 
@@ -35,6 +36,7 @@ impl<'a, K: Sink> LostLines<'a, K> {
         ensures sink { lost_loan_of self.new ≡ lost_loan_of self.old }
         ensures cause { HasCause (K.faults (lost_sink_of self.old)) (K.faults (lost_sink_of self.new)) result }
         ensures calls { LeavesSink K.whole K.calls 1 (length (last_line (codes "end ") n)) (lost_sink_of self.old) (lost_sink_of self.new) }
+        ensures lines { OnOk result (LeavesLines 255 K.whole K.calls K.taken (lost_sink_of self.old) (lost_sink_of self.new)) }
     {
         write_number(&mut *self.sink, b"end ", n as u128)
     }
@@ -46,6 +48,7 @@ impl<'a, K: Sink> LostLines<'a, K> {
         ensures sink { lost_loan_of self.new ≡ lost_loan_of self.old }
         ensures cause { HasCause (K.faults (lost_sink_of self.old)) (K.faults (lost_sink_of self.new)) result }
         ensures calls { LeavesSink K.whole K.calls 1 (length (last_line (codes "cut ") n)) (lost_sink_of self.old) (lost_sink_of self.new) }
+        ensures lines { OnOk result (LeavesLines 255 K.whole K.calls K.taken (lost_sink_of self.old) (lost_sink_of self.new)) }
     {
         write_number(&mut *self.sink, b"cut ", n as u128)
     }

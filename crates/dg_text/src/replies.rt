@@ -4,6 +4,7 @@ ghost use Rattle.std.specs.List.{concat, sum_by};
 ghost use Rattle.dg_io.specs.Told.{Told, Took, TookPart};
 ghost use Rattle.dg_io.specs.Faults.{HasCause};
 ghost use Rattle.dg_io.specs.SinkCalls.{LeavesSink};
+ghost use Rattle.dg_io.specs.SinkLines.{LeavesLines};
 ghost use Rattle.hex.specs.Hex.{encode_lower};
 ghost use Rattle.dg_text.specs.HexLines.{last_line};
 ghost use Rattle.dg_text.specs.LineCalls.{bytes_calls, calls_of};
@@ -33,6 +34,17 @@ const REFUSAL_ROOM: usize = 64;
 
 /// Writes the line of a reply; of a file, a listing, blocks, lost files or an audit their lines, and the one that ends them.
 pub fn write_reply<K: Sink>(sink: &mut K, reply: &Reply) -> Result<(), Failed>
+    ensures ok { OnOk result (Told (Took (reply_line reply.now)) (K.taken sink.old) (K.taken sink.new)) }
+    ensures err { OnErr result (Told (TookPart (reply_line reply.now)) (K.taken sink.old) (K.taken sink.new)) }
+    ensures cause { HasCause (K.faults sink.old) (K.faults sink.new) result }
+    ensures calls { LeavesSink K.whole K.calls (calls_of reply.now) (length (reply_line reply.now)) sink.old sink.new }
+    ensures lines { OnOk result (LeavesLines 255 K.whole K.calls K.taken sink.old sink.new) }
+{
+    write_by_kind(sink, reply)
+}
+
+// Writes the lines of a reply by its kind.
+fn write_by_kind<K: Sink>(sink: &mut K, reply: &Reply) -> Result<(), Failed>
     ensures ok { OnOk result (Told (Took (reply_line reply.now)) (K.taken sink.old) (K.taken sink.new)) }
     ensures err { OnErr result (Told (TookPart (reply_line reply.now)) (K.taken sink.old) (K.taken sink.new)) }
     ensures cause { HasCause (K.faults sink.old) (K.faults sink.new) result }
@@ -90,6 +102,7 @@ pub fn write_data<K: Sink>(sink: &mut K, bytes: &[u8]) -> Result<(), Failed>
     ensures err { OnErr result (Told (TookPart (reply_line (Reply.Data bytes.now))) (K.taken sink.old) (K.taken sink.new)) }
     ensures cause { HasCause (K.faults sink.old) (K.faults sink.new) result }
     ensures calls { LeavesSink K.whole K.calls (calls_of (Reply.Data bytes.now)) (length (reply_line (Reply.Data bytes.now))) sink.old sink.new }
+    ensures lines { OnOk result (LeavesLines 255 K.whole K.calls K.taken sink.old sink.new) }
 {
     if bytes.is_empty() {
         return write_all(sink, b"data -\n");
@@ -203,6 +216,7 @@ pub fn write_block_line<K: Sink>(sink: &mut K, block: u32) -> Result<(), Failed>
     ensures err { OnErr result (Told (TookPart (block_line block)) (K.taken sink.old) (K.taken sink.new)) }
     ensures cause { HasCause (K.faults sink.old) (K.faults sink.new) result }
     ensures calls { LeavesSink K.whole K.calls 1 (length (block_line block)) sink.old sink.new }
+    ensures lines { OnOk result (LeavesLines 255 K.whole K.calls K.taken sink.old sink.new) }
 {
     write_number(sink, b"block ", block as u128)
 }
@@ -213,6 +227,7 @@ pub fn write_blocks_end<K: Sink>(sink: &mut K, count: u32) -> Result<(), Failed>
     ensures err { OnErr result (Told (TookPart (last_line (codes "end ") count)) (K.taken sink.old) (K.taken sink.new)) }
     ensures cause { HasCause (K.faults sink.old) (K.faults sink.new) result }
     ensures calls { LeavesSink K.whole K.calls 1 (length (last_line (codes "end ") count)) sink.old sink.new }
+    ensures lines { OnOk result (LeavesLines 255 K.whole K.calls K.taken sink.old sink.new) }
 {
     write_number(sink, b"end ", count as u128)
 }
@@ -236,6 +251,7 @@ pub fn write_refusal<K: Sink>(sink: &mut K, number: u64, kind: BadLine) -> Resul
     ensures err { OnErr result (Told (TookPart (refusal number kind)) (K.taken sink.old) (K.taken sink.new)) }
     ensures cause { HasCause (K.faults sink.old) (K.faults sink.new) result }
     ensures calls { LeavesSink K.whole K.calls 1 (length (refusal number kind)) sink.old sink.new }
+    ensures lines { OnOk result (LeavesLines 255 K.whole K.calls K.taken sink.old sink.new) }
 {
     let mut line = [0u8; REFUSAL_ROOM];
     let end = spell_refusal(&mut line, number, kind);
@@ -248,6 +264,7 @@ pub fn write_usage<K: Sink>(sink: &mut K) -> Result<(), Failed>
     ensures err { OnErr result (Told (TookPart usage) (K.taken sink.old) (K.taken sink.new)) }
     ensures cause { HasCause (K.faults sink.old) (K.faults sink.new) result }
     ensures calls { LeavesSink K.whole K.calls 1 (length usage) sink.old sink.new }
+    ensures lines { OnOk result (LeavesLines 255 K.whole K.calls K.taken sink.old sink.new) }
 {
     write_all(
         sink,

@@ -6,4 +6,5 @@ mod ImageSteps
 mod InputLaws
 mod LineSteps
 mod OrderLaws
+mod ReadSteps
 mod ReplayLaws

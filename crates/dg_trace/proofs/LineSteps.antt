@@ -39,6 +39,12 @@ took_part_of_lines line xs i x lt is a b c before part =
     let Q : List ℕ → Type 0 = λ l. Told (TookPart l) a c in
     subst Q whole (took_part_of_more (flat_map line (take i xs) ++ line x) (flat_map line (drop (i + 1) xs)) a c so_far)
 
+-- the lines before this one, and it
+pub took_line_more : (line : ℕ → List ℕ) (xs : List ℕ) (i x : ℕ) → i < length xs → x ≡ get_or xs i x → (a b c : Option (List ℕ))
+    → Told (Took (flat_map line (take i xs))) a b → Told (Took (line x)) b c → Told (Took (flat_map line (take (i + 1) xs))) a c
+took_line_more line xs i x lt is a b c before next =
+    subst (λ (l : List ℕ). Told (Took l) a c) (sym (text_more line xs i x lt is)) (took_both (flat_map line (take i xs)) (line x) a b c before next)
+
 -- nothing of a text is a part of it
 pub part_none : (text : List ℕ) (x : Option (List ℕ)) → Told (TookPart text) x x
 part_none text None = tt

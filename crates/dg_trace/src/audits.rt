@@ -1,6 +1,8 @@
 // The audit of an image.
 ghost use Rattle.std.specs.Prelude.{◌≡◌, ◌*◌, ◌∷◌, [], Err, IfOk, OnErr, OnOk, length};
 ghost use Rattle.dg_io.specs.Faults.{HasCause};
+ghost use Rattle.dg_io.specs.SinkLines.{LeavesLines};
+ghost use Rattle.dg_io.specs.SourceReads.{LeavesSource};
 ghost use Rattle.dg_io.specs.Told.{Told, Took, TookPart};
 ghost use Rattle.dg_model.specs.Causes.{Rose};
 ghost use Rattle.dg_model.specs.Findings.{TellsFindings};
@@ -100,6 +102,7 @@ fn write_found<K: Sink>(sink: &mut K, found: &Option<Findings>) -> Result<(), Fa
     ensures ok { OnOk result (Told (Took (audit_text found.now)) (K.taken sink.old) (K.taken sink.new)) }
     ensures err { OnErr result (Told (TookPart (audit_text found.now)) (K.taken sink.old) (K.taken sink.new)) }
     ensures cause { HasCause (K.faults sink.old) (K.faults sink.new) result }
+    ensures lines { OnOk result (LeavesLines 255 K.whole K.calls K.taken sink.old sink.new) }
 {
     match found {
         Some(lines) => write_audit(sink, lines.as_slice()),
@@ -134,6 +137,7 @@ fn audit_bytes<K: Sink>(alloc: Global, image: Vec<u8>, sink: &mut K) -> Result<A
     ensures bytes { AreBytes image.items }
     ensures write { result ≡ Err TraceFault.Write → Rose (K.faults sink.old) (K.faults sink.new) }
     ensures kept { (result ≡ Err TraceFault.Write → ⊥) → K.faults sink.new ≡ K.faults sink.old }
+    ensures lines { (result ≡ Err TraceFault.Write → ⊥) → LeavesLines 255 K.whole K.calls K.taken sink.old sink.new }
     ensures read { result ≡ Err TraceFault.Read → ⊥ }
 {
     are_bytes(&image);
@@ -162,6 +166,10 @@ pub fn audit_image<S: Source, K: Sink>(
     ensures write { result ≡ Err TraceFault.Write → Rose (K.faults sink.old) (K.faults sink.new) }
     ensures source_kept { (result ≡ Err TraceFault.Read → ⊥) → S.faults source.new ≡ S.faults source.old }
     ensures sink_kept { (result ≡ Err TraceFault.Write → ⊥) → K.faults sink.new ≡ K.faults sink.old }
+
+    // How often they are called.
+    ensures lines { (result ≡ Err TraceFault.Write → ⊥) → LeavesLines 255 K.whole K.calls K.taken sink.old sink.new }
+    ensures reads { LeavesSource S.calls S.left 1 source.old source.new }
 {
     let image = read_image(alloc, source)?;
     audit_bytes(alloc, image, sink)

@@ -1,6 +1,7 @@
 // The image, read from a source.
 ghost use Rattle.std.specs.Prelude.{◌≡◌, ◌+◌, ◌<◌, ◌≤◌, ◌++◌, [], length, slice_range, IfOk, OnErr, OnOk};
 ghost use Rattle.dg_io.specs.Faults.{HasCause};
+ghost use Rattle.dg_io.specs.SourceReads.{LeavesSource};
 ghost use Rattle.dg_io.specs.Told.{Gave, IsSame, Told};
 ghost use Rattle.dg_model.specs.Causes.{Rose};
 ghost use Rattle.dg_trace.specs.Images.{GaveImage, GavePart};
@@ -35,6 +36,8 @@ fn read_behind<S: Source>(source: &mut S, piece: &mut Vec<u8>, at: usize) -> Res
     ensures end { IfOk result (λ n. n ≡ 0 → Told (λ before after. before ≡ []) (S.left source.old) (S.left source.new)) }
     ensures err { OnErr result (Told IsSame (S.left source.old) (S.left source.new)) }
     ensures cause { HasCause (S.faults source.old) (S.faults source.new) result }
+    ensures takes { IfOk result (λ n. 0 < n → LeavesSource S.calls S.left 0 source.old source.new) }
+    ensures reads { LeavesSource S.calls S.left 1 source.old source.new }
 {
     source.read(&mut piece[at..])
 }
@@ -72,6 +75,7 @@ pub fn read_image<S: Source>(alloc: Global, source: &mut S) -> Result<Vec<u8>, T
     ensures write { result ≡ Err TraceFault.Write → ⊥ }
     ensures read { result ≡ Err TraceFault.Read → Rose (S.faults source.old) (S.faults source.new) }
     ensures kept { (result ≡ Err TraceFault.Read → ⊥) → S.faults source.new ≡ S.faults source.old }
+    ensures reads { LeavesSource S.calls S.left 1 source.old source.new }
 {
     let Ok(mut piece) = new_piece(alloc) else {
         return Err(TraceFault::NoMemory);

@@ -1,6 +1,7 @@
 // The lines of a trace.
 ghost use Rattle.std.specs.Prelude.{◌≡◌, ◌≢◌, ◌*◌, ◌-◌, ◌<◌, ◌≤◌, ◌++◌};
 ghost use Rattle.std.specs.Prelude.{All, Err, IfOk, OnErr, OnOk, length, replicate, slice_index, take};
+ghost use Rattle.dg_io.specs.SinkLines.{LeavesLines};
 ghost use Rattle.dg_io.specs.Told.{Told, Took, TookPart};
 ghost use Rattle.dg_model.specs.Blocks.{IsTrimmed};
 ghost use Rattle.dg_model.specs.Causes.{Rose};
@@ -60,6 +61,7 @@ fn write_line<K: Sink>(alloc: Global, event: &Event, sink: &mut K) -> Result<(),
     ensures read { result ≡ Err TraceFault.Read → ⊥ }
     ensures write { result ≡ Err TraceFault.Write → Rose (K.faults sink.old) (K.faults sink.new) }
     ensures kept { (result ≡ Err TraceFault.Write → ⊥) → K.faults sink.new ≡ K.faults sink.old }
+    ensures lines { (result ≡ Err TraceFault.Write → ⊥) → LeavesLines 255 K.whole K.calls K.taken sink.old sink.new }
 {
     let Ok(mut line) = write_event(alloc, event) else {
         return Err(TraceFault::NoMemory);
@@ -88,6 +90,7 @@ fn write_block<K: Sink>(
     ensures read { result ≡ Err TraceFault.Read → ⊥ }
     ensures write { result ≡ Err TraceFault.Write → Rose (K.faults sink.old) (K.faults sink.new) }
     ensures kept { (result ≡ Err TraceFault.Write → ⊥) → K.faults sink.new ≡ K.faults sink.old }
+    ensures lines { (result ≡ Err TraceFault.Write → ⊥) → LeavesLines 255 K.whole K.calls K.taken sink.old sink.new }
 {
     let Ok(event) = write_of(alloc, g, volume, b) else {
         return Err(TraceFault::NoMemory);
@@ -110,6 +113,7 @@ fn write_blocks<K: Sink>(
     ensures read { result ≡ Err TraceFault.Read → ⊥ }
     ensures write { result ≡ Err TraceFault.Write → Rose (K.faults sink.old) (K.faults sink.new) }
     ensures kept { (result ≡ Err TraceFault.Write → ⊥) → K.faults sink.new ≡ K.faults sink.old }
+    ensures lines { (result ≡ Err TraceFault.Write → ⊥) → LeavesLines 255 K.whole K.calls K.taken sink.old sink.new }
 {
     for b in blocks {
         write_block(alloc, g, volume, *b, sink)?;
@@ -133,6 +137,7 @@ pub fn write_lines<K: Sink>(
     ensures read { result ≡ Err TraceFault.Read → ⊥ }
     ensures write { result ≡ Err TraceFault.Write → Rose (K.faults sink.old) (K.faults sink.new) }
     ensures kept { (result ≡ Err TraceFault.Write → ⊥) → K.faults sink.new ≡ K.faults sink.old }
+    ensures lines { (result ≡ Err TraceFault.Write → ⊥) → LeavesLines 255 K.whole K.calls K.taken sink.old sink.new }
 {
     let Ok(blocks) = trace_order(alloc, order, g, volume) else {
         return Err(TraceFault::NoMemory);

@@ -1,6 +1,8 @@
 // The trace of an image.
 ghost use Rattle.std.specs.Prelude.{◌≡◌, Err, OnErr, OnOk};
 ghost use Rattle.dg_io.specs.Faults.{HasCause};
+ghost use Rattle.dg_io.specs.SinkLines.{LeavesLines};
+ghost use Rattle.dg_io.specs.SourceReads.{LeavesSource};
 ghost use Rattle.dg_io.specs.Told.{Told, Took, TookPart};
 ghost use Rattle.dg_model.specs.Causes.{Rose};
 ghost use Rattle.dg_trace.specs.Answers.{refusal_text};
@@ -23,6 +25,7 @@ fn write_refusal<K: Sink>(sink: &mut K, refusal: TraceRefusal) -> Result<(), Fai
     ensures ok { OnOk result (Told (Took (refusal_text refusal)) (K.taken sink.old) (K.taken sink.new)) }
     ensures err { OnErr result (Told (TookPart (refusal_text refusal)) (K.taken sink.old) (K.taken sink.new)) }
     ensures cause { HasCause (K.faults sink.old) (K.faults sink.new) result }
+    ensures lines { OnOk result (LeavesLines 255 K.whole K.calls K.taken sink.old sink.new) }
 {
     match refusal {
         TraceRefusal::Length => write_all(sink, b"bad length\n"),
@@ -45,6 +48,7 @@ fn write_answer<K: Sink>(
     ensures bytes { AreBytes image.now }
     ensures write { result ≡ Err TraceFault.Write → Rose (K.faults sink.old) (K.faults sink.new) }
     ensures kept { (result ≡ Err TraceFault.Write → ⊥) → K.faults sink.new ≡ K.faults sink.old }
+    ensures lines { (result ≡ Err TraceFault.Write → ⊥) → LeavesLines 255 K.whole K.calls K.taken sink.old sink.new }
     ensures read { result ≡ Err TraceFault.Read → ⊥ }
 {
     match check_image(asked, image) {
@@ -80,6 +84,10 @@ pub fn write_trace<S: Source, K: Sink>(
     ensures write { result ≡ Err TraceFault.Write → Rose (K.faults sink.old) (K.faults sink.new) }
     ensures source_kept { (result ≡ Err TraceFault.Read → ⊥) → S.faults source.new ≡ S.faults source.old }
     ensures sink_kept { (result ≡ Err TraceFault.Write → ⊥) → K.faults sink.new ≡ K.faults sink.old }
+
+    // How often they are called.
+    ensures lines { (result ≡ Err TraceFault.Write → ⊥) → LeavesLines 255 K.whole K.calls K.taken sink.old sink.new }
+    ensures reads { LeavesSource S.calls S.left 1 source.old source.new }
 {
     let image = read_image(alloc, source)?;
     write_answer(alloc, asked, &image, sink)

@@ -1,6 +1,6 @@
 -- Want of memory is told of no input without a line feed of which something was read.
 use Rattle.std.proofs.Common.{◌≡◌, ◌≢◌, ◌∙◌, ℕ, List, [], ◌∷◌, ◌++◌, ap, append_assoc, inl, inr, refl, sym, subst}
-use Rattle.std.specs.Prelude.{◌⊎◌, IsSome, None, Option, Some}
+use Rattle.std.specs.Prelude.{IsSome, None, Option, Some}
 use Rattle.std.proofs.lemmas.List.{append-nil}
 use Rattle.std.proofs.lemmas.List.Concat.{flat_map-append}
 use Rattle.std.proofs.lemmas.List.Elements.{All-head, All-tail}
@@ -16,7 +16,7 @@ no_feed : (front behind : List ℕ) → HasNoLineFeed (front ++ 10 ∷ behind) �
 no_feed [] behind none = All-head (λ byte. byte ≢ 10) 10 behind none refl
 no_feed (x ∷ front) behind none = no_feed front behind (All-tail (λ byte. byte ≢ 10) x (front ++ 10 ∷ behind) none)
 
-fed : (front behind text : List ℕ) → HasNoLineFeed text → text ≡ front ++ 10 ∷ behind → ⊥
+pub fed : (front behind text : List ℕ) → HasNoLineFeed text → text ≡ front ++ 10 ∷ behind → ⊥
 fed front behind text none is = no_feed front behind (subst HasNoLineFeed is none)
 
 -- the lines of events end with a line feed

@@ -56,7 +56,7 @@ stands : (shape : Shape) (out : ℕ → Bool) (members : ℕ → MemberState) �
     → (s : ℕ) → s < shape.b → is_lost members s ≡ false
 stands shape out members are whole s low = lost_same members (member_by shape out) s are ∙ none_lost shape (member_by shape out) s whole low
 
-sites_stand : (n : ℕ) (members : ℕ → MemberState) (sites : List Site) → ((s : ℕ) → s < n → is_lost members s ≡ false) → AreBelow n sites → (has_site sites && all_lost members sites) ≡ false
+pub sites_stand : (n : ℕ) (members : ℕ → MemberState) (sites : List Site) → ((s : ℕ) → s < n → is_lost members s ≡ false) → AreBelow n sites → (has_site sites && all_lost members sites) ≡ false
 sites_stand n members [] none on = refl
 sites_stand n members (x ∷ xs) none on =
     and_left (is_lost members x.boundary) (all_lost members xs) (none x.boundary (All-head (λ (site : Site). site.boundary < n) x xs on))
@@ -67,7 +67,7 @@ both true false e f g = absurd (false≢true f)
 both false y e f g = absurd (false≢true e)
 
 -- where no count of faults rose, members are as they were
-stay_same : (shape : Shape) (out : ℕ → Bool) (written : ℕ → List ℕ) (old new : State) → Fine shape out written old → NoneRose old.counts.faults new.counts.faults
+pub stay_same : (shape : Shape) (out : ℕ → Bool) (written : ℕ → List ℕ) (old new : State) → Fine shape out written old → NoneRose old.counts.faults new.counts.faults
     → MembersFall old.counts.faults new.counts.faults old.members new.members → (q : ℕ) → new.members q ≡ member_by shape out q
 stay_same shape out written old new fine none falls q =
     stays_where_none old.counts.faults new.counts.faults old.members new.members none (not_filling shape out old.members fine.members) falls q ∙ fine.members q
@@ -199,7 +199,7 @@ out_by shape out q e = dead (nat_lt (q / 2) shape.b) (out q) e
     dead false true e = refl
     dead b false e = absurd (false≢true e)
 
-good_not_out : (m : MemberState) → m ≡ Good → m ≡ Out → ⊥
+pub good_not_out : (m : MemberState) → m ≡ Good → m ≡ Out → ⊥
 good_not_out m good out = false≢true (sym (ap is_good out) ∙ ap is_good good)
 
 -- ---- one step
@@ -337,7 +337,7 @@ run_answers Known told shape out f (Fail s j ∷ es) old final replies some whol
 run_answers Known told shape out f (event ∷ es) old final replies some whole fine none run = absurd whole
 
 -- the blank array
-good_all : (shape : Shape) (q : ℕ) → q / 2 < shape.b → member_by shape (λ p. false) q ≡ Good
+pub good_all : (shape : Shape) (q : ℕ) → q / 2 < shape.b → member_by shape (λ p. false) q ≡ Good
 good_all shape q low = good_by shape (λ p. false) q low refl
 
 blank_member : (shape : Shape) (before : Counts) (state : State) → NoneRose before.faults state.counts.faults → IsBlank shape before state → (q : ℕ) → state.members q ≡ member_by shape (λ p. false) q

@@ -1,5 +1,5 @@
 -- Where all boundaries of an array are in use, its members hold its state by their own numbers.
-use Rattle.std.proofs.Common.{◌≡◌, ◌≤◌, ◌<◌, ◌/◌, ◌∙◌, inl, inr, ℕ, Bool, true, false, List, length, refl, sym, ap, subst, arith}
+use Rattle.std.proofs.Common.{◌≡◌, ◌<◌, ◌/◌, ◌∙◌, inl, inr, ℕ, true, List, length, sym, ap, subst, arith}
 use Rattle.std.specs.Prelude.{IfSome, Option, Some, None, take}
 use Rattle.std.proofs.lemmas.Bool.{cases_lt, false≢true, or_left, or_right}
 use Rattle.std.proofs.lemmas.List.Elements.{All-weaker}
@@ -10,7 +10,6 @@ use Rattle.dg_model.specs.Seals.{HoldsLabel, LastLabel, label_on}
 use Rattle.dg_model.specs.States.{HoldsAll, State}
 use Rattle.dg_model.specs.Tables.{sites_in}
 use Rattle.dg_model.specs.declared.members.MemberState.{MemberState}
-use Rattle.dg_model.specs.declared.members.MemberState.TheVariants.{Out}
 use Rattle.dg_model.specs.declared.sites.Site.{Site}
 use Rattle.dg_run.specs.Replays.{HoldsInUse}
 use Rattle.dg_uses.proofs.Seated.{IsSeated, marks_label}

@@ -2,11 +2,14 @@ mod AuditRows
 mod AuditedLaws
 mod BlankAudits
 mod BlankRows
-mod CutLines
+mod BrokenRows
 pub mod Chains
 pub mod Cores
+mod CutLines
 mod DrilledLaws
 mod Ended
+mod FarReads
+mod FewCalls
 mod Flat
 mod Held
 pub mod InUse
@@ -27,6 +30,7 @@ mod OneRun
 mod OneStep
 mod OneVerdict
 pub mod OneView
+mod OtherMembers
 mod PastReads
 mod Promised
 mod Quiet
@@ -38,7 +42,9 @@ mod Results
 mod ResumedAgain
 mod ResumedPromises
 mod Rows
+mod SameLines
 mod SavedAgain
+mod SavedReads
 mod Seated
 mod Seen
 mod StayWhole

@@ -1,5 +1,6 @@
 -- What a replay prints.
 use Rattle.std.proofs.Common.{◌≡◌, ◌∙◌, ℕ, List, ◌∷◌, refl, sym, ap, subst}
+use Rattle.std.specs.Prelude.{Option}
 use Rattle.dg_io.specs.Racks.{counts_in, member_in, told_in}
 use Rattle.dg_io.specs.Sinks.{taken_in}
 use Rattle.dg_model.specs.Causes.{NoneRose}
@@ -23,8 +24,22 @@ OneInput = (events others : List Event) → AreInPlace events → AreInPlace oth
 abbrev pub AreReplies : (ℕ → Type 0) → Shape → List Event → List Reply → Type 0
 AreReplies tells shape events promised = (replies : List Reply) → RanSmoothly tells (Array shape ∷ events) replies → replies ≡ Done ∷ promised
 
-none_from : (before now : Counts) → AreNone before → NoneRose (λ q. 0) now.faults → NoneRose before.faults now.faults
+pub none_from : (before now : Counts) → AreNone before → NoneRose (λ q. 0) now.faults → NoneRose before.faults now.faults
 none_from before now fresh none = subst (λ (f : ℕ → ℕ). NoneRose f now.faults) (λ i q. sym (fresh.faults q) i) none
+
+-- so it is of a run of these events over a new rack, none of whose calls failed
+pub replied : (shape : Shape) (events : List Event) (promised : List Reply) (end : Replay) (before : Counts) (images : ℕ → Option (List ℕ)) (done : List Event)
+    (replies : List Reply) → done ≡ Array shape ∷ events → Ran before (counts_in end.rack) images (member_in end.rack) (told_in end.rack) done replies → AreNone before
+    → AreReplies (told_in end.rack) shape events promised → NeverFailed end → replies ≡ Done ∷ promised
+replied shape events promised end before images done replies same ran fresh are never = are replies (record {
+  before = before;
+  now = counts_in end.rack;
+  images = images;
+  bytes = member_in end.rack;
+  ran = subst (λ (es : List Event). Ran before (counts_in end.rack) images (member_in end.rack) (told_in end.rack) es replies) same ran;
+  told = λ q below. refl;
+  none = none_from before (counts_in end.rack) fresh never;
+})
 
 pub prints : OneInput → (shape : Shape) (events : List Event) (promised : List Reply) → AreInPlace (Array shape ∷ events)
     → (text : List ℕ) → text ≡ input_of (Array shape ∷ events) → (end : Replay) → AreReplies (told_in end.rack) shape events promised → HasReplayed text end → NeverFailed end
@@ -33,13 +48,5 @@ prints one shape events promised places text spelled end are did never =
     let replayed = did.replayed in
     let same : replayed.events ≡ Array shape ∷ events =
     one replayed.events (Array shape ∷ events) replayed.ran.in_place places (sym replayed.input.0 ∙ spelled) in
-    let smoothly : RanSmoothly (told_in end.rack) (Array shape ∷ events) replayed.replies = record {
-      before = did.before;
-      now = counts_in end.rack;
-      images = did.images;
-      bytes = member_in end.rack;
-      ran = subst (λ (es : List Event). Ran did.before (counts_in end.rack) did.images (member_in end.rack) (told_in end.rack) es replayed.replies) same replayed.ran;
-      told = λ q below. refl;
-      none = none_from did.before (counts_in end.rack) did.fresh never;
-    } in
-    replayed.output ∙ ap output_of (are replayed.replies smoothly)
+    replayed.output
+    ∙ ap output_of (replied shape events promised end did.before did.images replayed.events replayed.replies same replayed.ran did.fresh are never)

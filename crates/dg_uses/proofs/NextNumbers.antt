@@ -1,5 +1,5 @@
 -- The number of the next save after a step.
-use Rattle.std.proofs.Common.{◌≡◌, ◌∙◌, ◌+◌, ℕ, List, [], ◌∷◌, Option, Some, None, refl, ap, sym, subst, inl, inr, false}
+use Rattle.std.proofs.Common.{◌≡◌, ◌∙◌, ◌+◌, ℕ, List, ◌∷◌, Option, Some, None, refl, ap, sym, subst, inl, inr, false}
 use Rattle.std.specs.Option.{option_map}
 use Rattle.dg_model.specs.Changes.{Passes, Stays}
 use Rattle.dg_model.specs.Seals.{LastLabel, forgotten, next_sequence}

@@ -1,11 +1,11 @@
 -- A step holds too where the counts of members behind the array's own, and those of calls, are left out: it says nothing of them.
-use Rattle.std.proofs.Common.{◌≡◌, ◌≤◌, ◌<◌, ◌+◌, ◌/◌, ◌∙◌, inl, inr, ℕ, Bool, List, [], ◌∷◌, refl, sym, ap, subst, arith}
-use Rattle.std.specs.Prelude.{◌≢◌, ◌⊎◌, if◌then◌else◌, nat_lt, Option, Some, None}
+use Rattle.std.proofs.Common.{◌≡◌, ◌≤◌, ◌<◌, ◌/◌, ◌∙◌, inl, inr, ℕ, List, sym, ap, subst, arith}
+use Rattle.std.specs.Prelude.{◌⊎◌, if◌then◌else◌, nat_lt, Option, Some, None}
 use Rattle.std.proofs.lemmas.Bool.{cases_lt, cond-false, cond-true, le-ltb, lt-ltb}
 use Rattle.ufs_model.specs.Blocks.{Reading}
 use Rattle.dg_model.proofs.StepLaws.{StaysInUse}
 use Rattle.dg_model.specs.Causes.{Rose}
-use Rattle.dg_model.specs.Changes.{AreGoodMarks, BreaksOff, FillingFell, Goes, IsCramped, IsCut, IsMember, IsPlan, MayRead, Misses, Passes, PassesSave, PassesSlots, ReadsFew, Rebuilds, Replaces, Saves, SavesNone, SeesWants, Settles, Spreads, Stays, StaysUnwritten, Strikes, Tends, Writes, WritesFew}
+use Rattle.dg_model.specs.Changes.{BreaksOff, FillingFell, Goes, IsCramped, IsCut, IsMember, IsPlan, MayRead, Misses, Passes, PassesSave, PassesSlots, ReadsFew, Rebuilds, Replaces, Saves, SavesNone, SeesWants, Settles, Spreads, Stays, StaysUnwritten, Strikes, Tends, Writes}
 use Rattle.dg_model.specs.Members.{HasFallen, MembersFall, OthersFall}
 use Rattle.dg_model.specs.Plans.{Plan}
 use Rattle.dg_model.specs.States.{Counts, CountsRise, State, place_of}
@@ -13,7 +13,6 @@ use Rattle.dg_model.specs.Steps.{Handles, LosesStructure, MayAudit, Step, Touche
 use Rattle.dg_model.specs.declared.events.Event.{Event}
 use Rattle.dg_model.specs.declared.events.Event.TheVariants.{Write, Read, Fail, Replace, Rebuild, Settle, Tend, Diffuse, Who, Pending, Cat, Ls, Tree, Home, Save, Regroup, LostFiles, Audit, DropDisk, MendDisk}
 use Rattle.dg_model.specs.declared.findings.Finding.{Finding}
-use Rattle.dg_model.specs.declared.members.MemberState.{MemberState}
 use Rattle.dg_model.specs.declared.members.MemberState.TheVariants.{Filling, Out}
 use Rattle.dg_model.specs.declared.replies.Reply.{Reply}
 use Rattle.dg_model.specs.declared.replies.Reply.TheVariants.{Done, Range, Degraded, Unavailable, Already, Lost, NotOut, Failed, NotFilling, Copied, Settled, Malformed, NoSpace, Tended, Diffused, NotSettled, Verdict, Blocks, Data, Given, Cut, Listed, ListedCut, Nodes, NodesCut, Refused, HomeAt, NoHome, Saved, NotSaved, Whole, TooFew, Regrouped, LostFiles as LostFilesReply, LostFilesCut, Audited, NotParity, Mended}

@@ -1,19 +1,19 @@
 -- Histories whose bytes are told; and the run of a history's states over members of which nothing is counted behind the array's own.
 use Rattle.std.proofs.Common.{◌≡◌, ◌≤◌, ◌<◌, ◌/◌, ◌∙◌, ◌++◌, inl, inr, ℕ, List, [], ◌∷◌, length, refl, sym, ap, subst, arith}
-use Rattle.std.specs.Prelude.{◌≢◌, ◌⊎◌, if◌then◌else◌, nat_lt, All, Some}
+use Rattle.std.specs.Prelude.{◌≢◌, if◌then◌else◌, nat_lt, All, Some}
 use Rattle.std.proofs.lemmas.Bool.{cases_lt}
 use Rattle.std.proofs.lemmas.List.Elements.{All-head, All-tail}
 use Rattle.std.proofs.lemmas.List.FromFn.{length-range_with_len}
 use Rattle.dg_kept.specs.Opened.{AreTold}
 use Rattle.dg_model.proofs.KnownLaws.{run_less, step_less}
 use Rattle.dg_model.proofs.MomentLaws.{history_runs}
-use Rattle.dg_model.proofs.StepLaws.{StayInUse, StaysInUse, run_keeps}
+use Rattle.dg_model.proofs.StepLaws.{StayInUse}
 use Rattle.dg_model.specs.Causes.{NoneRose, Rose}
 use Rattle.dg_model.specs.Lives.{all_live, member_at}
 use Rattle.dg_model.specs.Moments.{AreCountsOf, Happens, History, HistoryOf, IsAllowed, Kind, Makes, Moment}
 use Rattle.dg_model.specs.Moments.Kind.{plain}
 use Rattle.dg_model.specs.Runs.{Run, Trace}
-use Rattle.dg_model.specs.States.{Counts, CountsRise, IsBlank, State}
+use Rattle.dg_model.specs.States.{Counts, IsBlank, State}
 use Rattle.dg_model.specs.declared.events.Event.{Event}
 use Rattle.dg_model.specs.declared.events.Event.TheVariants.{Array, Safe, Parity, Write, Read, Fail, Replace, Rebuild, Settle, Tend, Diffuse, Who, Pending, Cat, Ls, Tree, Home, Save, Regroup, LostFiles, Audit, DropDisk, MendDisk}
 use Rattle.dg_model.specs.declared.replies.Reply.{Reply}

@@ -150,7 +150,7 @@ both false b h = absurd (false≢true h)
 differs : (x : ℕ) → not (x == 10) ≡ true → x ≢ 10
 differs x h e = let same : not (10 == 10) ≡ true = subst (λ (y : ℕ). not (y == 10) ≡ true) e h in absurd (false≢true same)
 
-all_of : (text : List ℕ) → lacks text ≡ true → HasNoLineFeed text
+pub all_of : (text : List ℕ) → lacks text ≡ true → HasNoLineFeed text
 all_of [] h = All-nil (λ (x : ℕ). x ≢ 10)
 all_of (x ∷ rest) h =
     let parts = both (not (x == 10)) (lacks rest) h in

@@ -44,15 +44,15 @@ IsHere event = IsInPlace (Some shape_here) event
 pub one_byte : (x : ℕ) → x < 256 → AreBytes (x ∷ [])
 one_byte x low = All-cons (λ (z : ℕ). z < 256) x [] low (All-nil (λ (z : ℕ). z < 256))
 
-two_bytes : (x y : ℕ) → x < 256 → y < 256 → AreBytes (x ∷ y ∷ [])
+pub two_bytes : (x y : ℕ) → x < 256 → y < 256 → AreBytes (x ∷ y ∷ [])
 two_bytes x y low small = All-cons (λ (z : ℕ). z < 256) x (y ∷ []) low (one_byte y small)
 
 -- ---- a block is written and read
 
-abbrev written : List Event
+abbrev pub written : List Event
 written = Write 3 (104 ∷ 105 ∷ []) ∷ Read 3 ∷ []
 
-written_placed : AreInPlace (Array shape_here ∷ written)
+pub written_placed : AreInPlace (Array shape_here ∷ written)
 written_placed = (
   shape_is,
   All-cons IsHere (Write 3 (104 ∷ 105 ∷ [])) (Read 3 ∷ []) (omega arith, omega arith, two_bytes 104 105 (omega arith) (omega arith))
@@ -63,7 +63,7 @@ written_text : codes "array 1024 64 4 32 2\nwrite 3 6869\nread 3\n" ≡ input_of
 unfolding digits encode_with
 written_text = refl
 
-written_output : output_of (Done ∷ answers shape_here (λ q. false) (λ b. []) written) ≡ codes "ok\nok\ndata 6869\n"
+pub written_output : output_of (Done ∷ answers shape_here (λ q. false) (λ b. []) written) ≡ codes "ok\nok\ndata 6869\n"
 unfolding encode_with
 written_output = refl
 

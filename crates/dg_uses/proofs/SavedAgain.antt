@@ -1,5 +1,5 @@
 -- What is taken of members that a save was left on, and an array that goes on from them.
-use Rattle.std.proofs.Common.{◌≡◌, ◌∙◌, ◌++◌, ◌<◌, ℕ, List, [], ◌∷◌, inl, inr, true, false, arith, refl, sym, ap, subst}
+use Rattle.std.proofs.Common.{◌≡◌, ◌∙◌, ◌++◌, ◌<◌, ℕ, List, [], ◌∷◌, inl, inr, false, arith, refl, sym, ap, subst}
 use Rattle.std.specs.Prelude.{All, Option, Some, None, IfSome, IsSome}
 use Rattle.std.proofs.lemmas.Bool.{false≢true}
 use Rattle.std.proofs.lemmas.List.Elements.{All-head, All-tail}
@@ -69,7 +69,7 @@ are_taken images before now taken none read = record {
 
 -- ---- what a call finds
 
-had_is : (image all : Option (List ℕ)) → IsSome all → had image all ≡ image
+pub had_is : (image all : Option (List ℕ)) → IsSome all → had image all ≡ image
 had_is image None told = absurd (false≢true told)
 had_is image (Some all) told = refl
 

@@ -1,6 +1,6 @@
 -- Where the members of an array are along a run, whichever boundaries are in use.
 use Rattle.std.proofs.Common.{◌≡◌, ◌≤◌, ◌<◌, ◌+◌, ◌*◌, ◌/◌, ◌&&◌, ◌||◌, ◌∙◌, inl, inr, ℕ, Bool, true, false, not, List, [], ◌∷◌, length, refl, sym, ap, subst, arith}
-use Rattle.std.specs.Prelude.{◌≢◌, ◌⊎◌, if◌then◌else◌, nat_lt, filter, slice_index, Option, Some, None}
+use Rattle.std.specs.Prelude.{◌≢◌, if◌then◌else◌, nat_lt, filter, slice_index, Option, Some, None}
 use Rattle.std.specs.Option.{option_map}
 use Rattle.std.specs.List.{range_with_len}
 use Rattle.std.proofs.lemmas.Bool.{and_parts, cases_eq, cases_lt, cond-false, false≢true, le-ltb, ltb-true, or_cases, or_right}
@@ -8,7 +8,7 @@ use Rattle.std.proofs.lemmas.List.{length-map}
 use Rattle.std.proofs.lemmas.List.FromFn.{length-range_with_len}
 use Rattle.dg_model.proofs.StepLaws.{StayInUse, StaysInUse, step_keeps}
 use Rattle.dg_model.specs.Lives.{left_of}
-use Rattle.dg_model.specs.Changes.{Goes, Misses, Passes, PassesSave, Stays}
+use Rattle.dg_model.specs.Changes.{Goes, Passes, Stays}
 use Rattle.dg_model.specs.Members.{IsStruck, MembersFall, OthersFall, is_good, is_lost}
 use Rattle.dg_model.specs.Regroups.{Regroups, label_left, left_in, member_before, without_lost}
 use Rattle.dg_model.specs.Runs.{Run}
@@ -18,7 +18,7 @@ use Rattle.dg_model.specs.Steps.{Handles, IsLostIn, Step, member_of}
 use Rattle.dg_model.specs.declared.events.Event.{Event}
 use Rattle.dg_model.specs.declared.events.Event.TheVariants.{Write, Read, Fail, Replace, Rebuild, Settle, Tend, Diffuse, Who, Pending, Cat, Ls, Tree, Home, Save, Regroup, LostFiles, Audit, DropDisk, MendDisk}
 use Rattle.dg_model.specs.declared.members.MemberState.{MemberState}
-use Rattle.dg_model.specs.declared.members.MemberState.TheVariants.{Good, Filling, Out}
+use Rattle.dg_model.specs.declared.members.MemberState.TheVariants.{Filling, Out}
 use Rattle.dg_model.specs.declared.replies.Reply.{Reply}
 use Rattle.dg_model.specs.declared.replies.Reply.TheVariants.{Done, Range, Degraded, Unavailable, Already, Lost, NotOut, Failed, NotFilling, Copied, Settled, Malformed, NoSpace, Tended, Diffused, NotSettled, Verdict, Blocks, Data, Given, Cut, Listed, ListedCut, Nodes, NodesCut, Refused, HomeAt, NoHome, Saved, NotSaved, Whole, TooFew, Regrouped, LostFiles as LostFilesReply, LostFilesCut, Audited, NotParity, Mended}
 use Rattle.dg_model.specs.declared.shapes.Shape.{Shape}

@@ -1,5 +1,5 @@
 -- What becomes of words that are no command, where neither the source nor the sink fails.
-use Rattle.std.proofs.Common.{◌≡◌, ◌∙◌, ◌∷◌, [], ℕ, List, ap, refl, subst, sym}
+use Rattle.std.proofs.Common.{◌≡◌, [], ℕ, List, refl, subst, sym}
 use Rattle.std.specs.Prelude.{Option, Some}
 use Rattle.dg_io.specs.Told.{Told, Took}
 use Rattle.dg_run.specs.Calls.{Facts}

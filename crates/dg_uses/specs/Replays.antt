@@ -7,7 +7,7 @@ use Rattle.dg_model.specs.Causes.{NoneRose}
 use Rattle.dg_model.specs.States.{Counts}
 use Rattle.dg_model.specs.declared.events.Event.{Event}
 use Rattle.dg_model.specs.declared.replies.Reply.{Reply}
-use Rattle.dg_run.specs.Replays.{IsCut, Ran, Replayed, Stopped}
+use Rattle.dg_run.specs.Replays.{BrokeOff, IsCut, Ran, Replayed, Stopped}
 use Rattle.dg_uses.specs.Promises.{IsToldAtEnd}
 use Rattle.dg_uses.specs.declared.replays.Replay.{Replay}
 
@@ -53,6 +53,14 @@ pub record HasBeenCut (text : List ℕ) (end : Replay) : Type 0 where
   pub fresh : AreNone before
   pub images : ℕ → Option (List ℕ)
   pub cut : IsCut before (counts_in end.rack) images (member_in end.rack) (told_in end.rack)
+      (Some text) (Some (left_in end.source)) (Some []) (Some (taken_in end.sink))
+
+-- the same up to a fault of the source
+pub record HasBrokenOff (text : List ℕ) (end : Replay) : Type 0 where
+  pub before : Counts
+  pub fresh : AreNone before
+  pub images : ℕ → Option (List ℕ)
+  pub broke : BrokeOff before (counts_in end.rack) images (member_in end.rack) (told_in end.rack)
       (Some text) (Some (left_in end.source)) (Some []) (Some (taken_in end.sink))
 
 -- a text begins with this part

@@ -16,6 +16,7 @@ use Rattle.dg_model.specs.declared.events.Event.{Event}
 use Rattle.dg_model.specs.declared.events.Event.TheVariants.{Read}
 use Rattle.dg_model.specs.declared.replies.Reply.{Reply}
 use Rattle.dg_run.specs.Calls.{Facts}
+use Rattle.dg_run.specs.Endings.{GaveLines}
 use Rattle.dg_run.specs.Opened.{opened_moment}
 use Rattle.dg_run.specs.Replays.{HoldsInUse}
 use Rattle.dg_saved.specs.Calls.{Facts as SavedFacts}
@@ -92,6 +93,14 @@ pub record HasGoneOn (old : State) (save : Save) (facts : Facts) : Type 0 where
   pub replies : List Reply
   pub on : GoesOn old save facts.images facts.bytes facts.before facts.now events replies
   pub input : Told (λ b a. (b ≡ input_of events) × (a ≡ [])) facts.left facts.rest
+  pub output : Told (Took (output_of replies)) facts.taken facts.given
+
+-- The source failed: the lines that it gave whole are those of events with which the array went on; the output is the text of their replies.
+pub record HasGoneOnSoFar (old : State) (save : Save) (facts : Facts) : Type 0 where
+  pub events : List Event
+  pub replies : List Reply
+  pub on : GoesOn old save facts.images facts.bytes facts.before facts.now events replies
+  pub input : Told (GaveLines (input_of events)) facts.left facts.rest
   pub output : Told (Took (output_of replies)) facts.taken facts.given
 
 -- An event was answered by the array that was opened again, and the text of its reply was printed.

@@ -21,7 +21,7 @@ use dg_io::{Rack, Sink, Source};
 use dg_run::{Status, run};
 use std::alloc::Global;
 
-/// Acceptable lines are replayed.
+/// Acceptable lines are replayed. Where that is done, neither the source nor the sink has failed.
 pub fn replay_lines<S: Source, K: Sink, R: Rack>(
     alloc: Global,
     words: &Vec<String>,
@@ -30,7 +30,8 @@ pub fn replay_lines<S: Source, K: Sink, R: Rack>(
     rack: &mut R,
 ) -> Status
     requires { IsCommand (map string_bytes words.now.items) Command.Replay }
-    ensures { (events : List Event) → IsInput events → S.left source.old ≡ Some (input_of events) → IsSome (S.left source.new)
+    ensures kept { result ≡ Status.Done → (S.faults source.new ≡ S.faults source.old) × (K.faults sink.new ≡ K.faults sink.old) }
+    ensures complete { (events : List Event) → IsInput events → S.left source.old ≡ Some (input_of events) → IsSome (S.left source.new)
         → (Rose (S.faults source.old) (S.faults source.new) → ⊥) → (Rose (K.faults sink.old) (K.faults sink.new) → ⊥)
         → (result ≡ Status.Done) ⊎ (result ≡ Status.NoMemory) }
 {

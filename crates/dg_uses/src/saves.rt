@@ -1,19 +1,21 @@
 // Of a replay that ends with a save, and a call on what is left of its members.
-ghost use Rattle.std.specs.Prelude.{◌≡◌, ◌⊎◌, ◌<◌, ◌++◌, ◌∷◌, [], All, ℕ, List, Option, map, string_bytes};
+ghost use Rattle.std.specs.Prelude.{◌≡◌, ◌⊎◌, ◌<◌, ◌++◌, ◌∷◌, [], All, ℕ, List, Option, IsSome, Some, map, string_bytes};
 ghost use Rattle.dg_kept.specs.Saved.{Save};
 ghost use Rattle.dg_kept.specs.SavedRuns.{EndsWithSave, IsReading, WasLed};
-ghost use Rattle.dg_model.specs.Causes.{NoneRose};
+ghost use Rattle.dg_model.specs.Causes.{NoneRose, Rose};
 ghost use Rattle.dg_model.specs.States.{Counts, State};
 ghost use Rattle.dg_model.specs.declared.events.Event.{Event};
 ghost use Rattle.dg_model.specs.declared.replies.Reply.{Reply};
+ghost use Rattle.dg_model.specs.declared.shapes.Shape.{Shape};
 ghost use Rattle.dg_run.specs.Calls.{Facts, facts_of, met_by};
 ghost use Rattle.dg_run.specs.Replays.{Ran};
-ghost use Rattle.dg_run.specs.Resumes.{RanOn};
+ghost use Rattle.dg_run.specs.Resumes.{AreLines, RanOn};
 ghost use Rattle.dg_saved.specs.Calls.{Facts as SavedFacts};
 ghost use Rattle.dg_saved.specs.Saved.{FoundNoState, FoundUnclean, HasRun, TellsArray};
-ghost use Rattle.dg_saved.specs.Texts.{cat_text};
+ghost use Rattle.dg_saved.specs.Texts.{cat_text, ls_text};
+ghost use Rattle.dg_text.specs.Lines.{input_of};
 ghost use Rattle.dg_uses.specs.Promises.{IsToldAtEnd};
-ghost use Rattle.dg_uses.specs.Saves.{GivesSaved, GoesOn, HasAnswered, HasGoneOn, IsAnswered, IsFoundAgain, first_of};
+ghost use Rattle.dg_uses.specs.Saves.{GivesSaved, GoesOn, HasAnswered, HasGoneOn, HasGoneOnSoFar, IsAnswered, IsFoundAgain, first_of};
 ghost use Rattle.dg_words.specs.Commands.{IsCommand};
 ghost use Rattle.dg_words.specs.declared.commands.Command.{Command};
 
@@ -77,7 +79,8 @@ pub fn saved_blocks_are_read_again()
 {}
 
 /// Resumes what is left. Where no count of faults rose, there is a saved array; and where all lines were done, it went on from the state that was
-/// saved.
+/// saved. So it did where the source failed, by the lines that it gave whole. Lines that are acceptable on any array are done where neither the source
+/// nor the sink fails, or memory is wanting.
 pub fn resume_what_is_left<S: Source, K: Sink, R: Rack>(
     alloc: Global,
     words: &Vec<String>,
@@ -93,13 +96,23 @@ pub fn resume_what_is_left<S: Source, K: Sink, R: Rack>(
         → IsFoundAgain old number last held save (R.bytes rack.old) (R.bytes rack.new) → NoneRose (R.counts rack.old).faults (R.counts rack.new).faults
         → result ≡ Status.Done
         → HasGoneOn old save (facts_of S.Source K.Sink R.Rack source.old source.new sink.old sink.new rack.old rack.new) }
+    ensures broke_off { (old : State) (number : ℕ) (last : State) (held : ℕ → Option (List ℕ)) (save : Save)
+        → IsFoundAgain old number last held save (R.bytes rack.old) (R.bytes rack.new) → NoneRose (R.counts rack.old).faults (R.counts rack.new).faults
+        → result ≡ Status.ReadFault
+        → HasGoneOnSoFar old save (facts_of S.Source K.Sink R.Rack source.old source.new sink.old sink.new rack.old rack.new) }
+    ensures complete { (old : State) (number : ℕ) (last : State) (held : ℕ → Option (List ℕ)) (save : Save)
+        → IsFoundAgain old number last held save (R.bytes rack.old) (R.bytes rack.new) → NoneRose (R.counts rack.old).faults (R.counts rack.new).faults
+        → (events : List Event) → ((shape : Shape) → AreLines shape events) → S.left source.old ≡ Some (input_of events) → IsSome (S.left source.new)
+        → (Rose (S.faults source.old) (S.faults source.new) → ⊥) → (Rose (K.faults sink.old) (K.faults sink.new) → ⊥)
+        → (result ≡ Status.Done) ⊎ (result ≡ Status.NoMemory) }
 {
     saves_are_found_again();
     saved_arrays_go_on::<R>();
     run(alloc, words, source, sink, rack)
 }
 
-/// Asks what is left for a file. Where no count of faults rose, there is a saved array; and it answered from the state that was saved.
+/// Asks what is left for a file. Where no count of faults rose, there is a saved array; and it answered from the state that was saved. Where neither the
+/// source nor the sink fails, there is such an answer, or memory is wanting.
 pub fn cat_what_is_left<S: Source, K: Sink, R: Rack>(
     alloc: Global,
     words: &Vec<String>,
@@ -116,6 +129,40 @@ pub fn cat_what_is_left<S: Source, K: Sink, R: Rack>(
         → IsFoundAgain old number last held save (R.bytes rack.old) (R.bytes rack.new) → NoneRose (R.counts rack.old).faults (R.counts rack.new).faults
         → (result ≡ Status.Done) ⊎ (result ≡ Status.Refused)
         → HasAnswered old save (met_by (facts_of S.Source K.Sink R.Rack source.old source.new sink.old sink.new rack.old rack.new)) (Event.Cat path) cat_text }
+    ensures complete { (path : List ℕ) → IsCommand (map string_bytes words.now.items) (Command.Cat path)
+        → (old : State) (number : ℕ) (last : State) (held : ℕ → Option (List ℕ)) (save : Save)
+        → IsFoundAgain old number last held save (R.bytes rack.old) (R.bytes rack.new) → NoneRose (R.counts rack.old).faults (R.counts rack.new).faults
+        → (Rose (S.faults source.old) (S.faults source.new) → ⊥) → (Rose (K.faults sink.old) (K.faults sink.new) → ⊥)
+        → (result ≡ Status.Done) ⊎ ((result ≡ Status.Refused) ⊎ (result ≡ Status.NoMemory)) }
+{
+    saves_are_found_again();
+    saved_arrays_go_on::<R>();
+    run(alloc, words, source, sink, rack)
+}
+
+/// Asks what is left for a directory. Where no count of faults rose, there is a saved array; and it answered from the state that was saved. Where neither the
+/// source nor the sink fails, there is such an answer, or memory is wanting.
+pub fn ls_what_is_left<S: Source, K: Sink, R: Rack>(
+    alloc: Global,
+    words: &Vec<String>,
+    source: &mut S,
+    sink: &mut K,
+    rack: &mut R,
+) -> Status
+    ensures opened { (path : List ℕ) → IsCommand (map string_bytes words.now.items) (Command.Ls path)
+        → (old : State) (number : ℕ) (last : State) (held : ℕ → Option (List ℕ)) (save : Save)
+        → IsFoundAgain old number last held save (R.bytes rack.old) (R.bytes rack.new) → NoneRose (R.counts rack.old).faults (R.counts rack.new).faults
+        → (result ≡ Status.NoState → ⊥) × (result ≡ Status.Unclean → ⊥) }
+    ensures answered { (path : List ℕ) → IsCommand (map string_bytes words.now.items) (Command.Ls path)
+        → (old : State) (number : ℕ) (last : State) (held : ℕ → Option (List ℕ)) (save : Save)
+        → IsFoundAgain old number last held save (R.bytes rack.old) (R.bytes rack.new) → NoneRose (R.counts rack.old).faults (R.counts rack.new).faults
+        → (result ≡ Status.Done) ⊎ (result ≡ Status.Refused)
+        → HasAnswered old save (met_by (facts_of S.Source K.Sink R.Rack source.old source.new sink.old sink.new rack.old rack.new)) (Event.Ls path) ls_text }
+    ensures complete { (path : List ℕ) → IsCommand (map string_bytes words.now.items) (Command.Ls path)
+        → (old : State) (number : ℕ) (last : State) (held : ℕ → Option (List ℕ)) (save : Save)
+        → IsFoundAgain old number last held save (R.bytes rack.old) (R.bytes rack.new) → NoneRose (R.counts rack.old).faults (R.counts rack.new).faults
+        → (Rose (S.faults source.old) (S.faults source.new) → ⊥) → (Rose (K.faults sink.old) (K.faults sink.new) → ⊥)
+        → (result ≡ Status.Done) ⊎ ((result ≡ Status.Refused) ⊎ (result ≡ Status.NoMemory)) }
 {
     saves_are_found_again();
     saved_arrays_go_on::<R>();

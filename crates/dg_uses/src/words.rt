@@ -24,11 +24,13 @@ pub fn refuse_no_words(alloc: Global) -> Result<Answer, NoMemory>
     Ok(Answer { status, sink, rack })
 }
 
-/// A status asks nothing of the source, and neither a source nor a sink that never fails is said to have failed.
+/// A status asks nothing of the source, and neither a source nor a sink that never fails is said to have failed. Nor are its words said to be no
+/// command.
 pub fn ask_for_a_status(alloc: Global, rack: &mut MemRack) -> Result<(Status, SureSource), NoMemory>
     ensures calls { IfOk result (λ end. sure_calls end.1 ≡ 0) }
     ensures read { IfOk result (λ end. end.0 ≡ Status.ReadFault → ⊥) }
     ensures write { IfOk result (λ end. end.0 ≡ Status.WriteFault → ⊥) }
+    ensures usage { IfOk result (λ end. end.0 ≡ Status.Usage → ⊥) }
 {
     let words = status_words(alloc)?;
     let mut source = SureSource::new(Vec::new(alloc));

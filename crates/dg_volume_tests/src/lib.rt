@@ -2,6 +2,14 @@
 #![tactic(auto)]
 
 #[cfg(test)]
+mod calls;
+#[cfg(test)]
+mod checkpoint_faults;
+#[cfg(test)]
+mod regroup_faults;
+#[cfg(test)]
+mod regroup_tests;
+#[cfg(test)]
 mod settle_tests;
 #[cfg(test)]
 mod write_tests;

@@ -2,19 +2,20 @@
 ghost use Rattle.std.specs.Prelude.{IfOk};
 ghost use Rattle.dg_volume.specs.Volumes.{IsWell, any_phase, loose_phase};
 
+use crate::calls::LostPaths;
 use crate::written::{image, rack, shape_of, up};
 use dg_io::{Failed, Rack};
 use dg_model::NoRoom;
 use dg_volume::{
     AnyPhase, AuditAnswer, CatAnswer, DiffuseAnswer, FailAnswer, HomeAnswer, Hot, Listing, Loose,
-    PathList, Phase, TendRun, TreeAnswer, Unsettled, Volume,
+    Phase, TendRun, TreeAnswer, Unsettled, Volume,
 };
 use std::alloc::Global;
 use std::process::Abort;
 use std::test::Fail;
 use ufs_model::{Kind, is_path};
 
-/// A listing that counts its entries, or its paths.
+/// A listing that counts its entries.
 #[derive(Drop)]
 struct Count {
     entries: u32,
@@ -35,27 +36,6 @@ impl Listing for Count {
         _size: u64,
         _name: &[u8],
     ) -> Result<(), Failed> {
-        self.entries = self.entries.saturating_add(1);
-        Ok(())
-    }
-
-    ghost nothing = { λ s. tt };
-
-    ghost then = { λ a b c x y first second. tt };
-
-    ghost then_part = { λ a b c x y first second. tt };
-
-    ghost part = { λ a b x y first. tt };
-}
-
-impl PathList for Count {
-    ghost took = { λ old paths new. Unit {0} };
-
-    ghost took_part = { λ old paths new. Unit {0} };
-
-    ghost faults = { λ listing. 0 };
-
-    fn line(&mut self, _inode: u32, _path: &[u8]) -> Result<(), Failed> {
         self.entries = self.entries.saturating_add(1);
         Ok(())
     }
@@ -95,9 +75,12 @@ fn settle_typed<R: Rack + Drop>(
     let mut out = Count { entries: 0 };
     assert_eq!(rt; settled.tree(alloc, &mut out)?, CatAnswer::Given(5));
     assert_eq!(rt; out.entries, 5);
-    let mut lost = Count { entries: 0 };
+    let mut lost = LostPaths {
+        files: 0,
+        others: 0,
+    };
     assert_eq!(rt; settled.lost_files(alloc, &mut lost)?, CatAnswer::Given(0));
-    assert_eq!(rt; lost.entries, 0);
+    assert_eq!(rt; lost.files, 0);
     let mut hot = Hot::new(alloc)?;
     hot.touch(3)?;
     assert_eq!(rt; settled.diffuse(alloc, &hot)?, DiffuseAnswer::Diffused(1));
@@ -132,9 +115,12 @@ fn name_none<R: Rack>(
 ) -> Result<(), Fail>
     requires { IsWell any_phase R.Rack volume.old }
 {
-    let mut lost = Count { entries: 0 };
+    let mut lost = LostPaths {
+        files: 0,
+        others: 0,
+    };
     let answer = volume.lost_files(alloc, &mut lost)?;
-    assert!(rt; answer == TreeAnswer::NotSettled && lost.entries == 0);
+    assert!(rt; answer == TreeAnswer::NotSettled && lost.files == 0);
     Ok(())
 }
 

@@ -7,9 +7,11 @@ use Rattle.dg_model.specs.declared.events.Event.TheVariants.{Cat}
 use Rattle.dg_model.specs.declared.phases.Phase.{Phase}
 use Rattle.dg_model.specs.declared.replies.Reply.TheVariants.{Cut, Given}
 use Rattle.dg_model.specs.declared.shapes.Shape.{Shape}
-use Rattle.dg_run.proofs.Answers.{answered, answered_part, at_err}
+use Rattle.dg_run.proofs.Answers.{answered, answered_part, at_err, at_ok}
 use Rattle.dg_run.proofs.ArraySteps.{steps_by, steps_of, volume_steps, weaker_steps}
 use Rattle.dg_run.proofs.FileParts.{file_part, part_lines, told_lines}
+use Rattle.dg_run.proofs.LentLines.{Leaves, lent}
+use Rattle.dg_run.specs.declared.events.Fault.TheVariants.{Write}
 use Rattle.dg_saved.specs.PathReplies.{cat_nothing, has_reply}
 use Rattle.dg_run.specs.Steps.{shape_of}
 use Rattle.dg_text.specs.HexLines.{InLines, TookBytes, TookBytesPart, last_line}
@@ -134,6 +136,7 @@ returns-in_default g c =
     let steps = steps_of g.R.Rack a b event has.reply tt refl step in
     let ok = subst (λ k. OnOk c.send_nothing.result (Told (Took (reply_line has.reply)) (g.K.Sink.taken k) (g.K.Sink.taken c.send_nothing.new.sink))) (search (rules, rule.0)) (c.send_nothing.ensures.ok has.reply has.is) in
     let err = subst (λ k. OnErr c.send_nothing.result (Told (TookPart (reply_line has.reply)) (g.K.Sink.taken k) (g.K.Sink.taken c.send_nothing.new.sink))) (search (rules, rule.0)) (c.send_nothing.ensures.part has.reply has.is) in
+    let sent = subst (λ k. OnOk c.send_nothing.result (Leaves g.K.Sink k c.send_nothing.new.sink)) (search (rules, rule.0)) c.send_nothing.ensures.lines in
     record {
       goes = search rules;
       answered = answered g.R.Rack event has.reply _ _ a b c.send_nothing.result steps ok;
@@ -141,6 +144,25 @@ returns-in_default g c =
       wanting = search rules;
       later = search rules;
       kept = search rules;
+      lines = at_ok c.send_nothing.result Write c.send_nothing.ensures.err sent;
       read = search rules;
       write = search rules;
     }
+
+pub returns-in-Ok-touch-clause-lines : goal.returns-in-Ok-touch-clause-lines
+returns-in-Ok-touch-clause-lines g c none =
+    let rule = c.in-Given.ensures.steps in
+    let file = c.in-Ok.ensures.ok c.new-lines.result rule.0 c.new-lines.ensures.nothing rule.2 in
+    lent g.K.Sink _ _ c.end.new.self.sink.now _ c.new-lines.ensures.sink file.few_lines (search rules)
+
+pub returns-in-Err-clause-lines : goal.returns-in-Err-clause-lines
+returns-in-Err-clause-lines g c none =
+    let rule = c.in-Given.ensures.steps in
+    let file = c.in-Ok.ensures.ok c.new-lines.result rule.0 c.new-lines.ensures.nothing rule.2 in
+    lent g.K.Sink _ _ c.end.new.self.sink.now _ c.new-lines.ensures.sink file.few_lines (search rules)
+
+pub returns-in-Ok-cut-clause-lines : goal.returns-in-Ok-cut-clause-lines
+returns-in-Ok-cut-clause-lines g c none =
+    let rule = c.in-Cut.ensures.steps in
+    let file = c.in-Ok-cut.ensures.ok c.new-lines.result rule.0 c.new-lines.ensures.nothing rule.2 in
+    lent g.K.Sink _ _ c.cut.new.self.sink.now _ c.new-lines.ensures.sink file.few_lines (search rules)

@@ -3,9 +3,11 @@ use Rattle.std.specs.Prelude.{OnErr, OnOk, codes}
 use Rattle.dg_io.specs.Told.{Told, Took, TookPart}
 use Rattle.dg_model.specs.declared.events.Event.TheVariants.{Ls}
 use Rattle.dg_model.specs.declared.replies.Reply.TheVariants.{Listed, ListedCut}
-use Rattle.dg_run.proofs.Answers.{answered, answered_part, at_err}
+use Rattle.dg_run.proofs.Answers.{answered, answered_part, at_err, at_ok}
 use Rattle.dg_run.proofs.ArraySteps.{steps_of, weaker_steps}
 use Rattle.dg_run.proofs.FileParts.{listing_part, part_end, part_lines, told_end, told_lines}
+use Rattle.dg_run.proofs.LentLines.{Leaves, lent_both}
+use Rattle.dg_run.specs.declared.events.Fault.TheVariants.{Write}
 use Rattle.dg_saved.specs.PathReplies.{has_reply, ls_nothing}
 use Rattle.dg_text.specs.HexLines.{last_line}
 use Rattle.dg_text.specs.ListingLines.{TookEntries, TookEntriesPart}
@@ -91,13 +93,25 @@ returns-in_default g c =
     let steps = steps_of g.R.Rack c.args.array.now (record c.args.array.now { volume = c.ls.new.self }) (Ls c.args.path.now) has.reply tt refl step in
     let ok = subst (λ k. OnOk c.send_nothing.result (Told (Took (reply_line has.reply)) (g.K.Sink.taken k) (g.K.Sink.taken c.send_nothing.new.sink))) (search (rules, rule.0)) (c.send_nothing.ensures.ok has.reply has.is) in
     let err = subst (λ k. OnErr c.send_nothing.result (Told (TookPart (reply_line has.reply)) (g.K.Sink.taken k) (g.K.Sink.taken c.send_nothing.new.sink))) (search (rules, rule.0)) (c.send_nothing.ensures.part has.reply has.is) in
+    let sent = subst (λ k. OnOk c.send_nothing.result (Leaves g.K.Sink k c.send_nothing.new.sink)) (search (rules, rule.0)) c.send_nothing.ensures.lines in
     record {
       goes = search rules;
       answered = answered g.R.Rack (Ls c.args.path.now) has.reply _ _ c.args.array.now (record c.args.array.now { volume = c.ls.new.self }) c.send_nothing.result steps ok;
       part = λ is. at_err c.send_nothing.result _ is (answered_part g.R.Rack (Ls c.args.path.now) has.reply _ _ c.args.array.now (record c.args.array.now { volume = c.ls.new.self }) c.send_nothing.result (weaker_steps g.R.Rack c.args.array.now (record c.args.array.now { volume = c.ls.new.self }) (Ls c.args.path.now) has.reply steps) err);
       later = search rules;
       kept = search rules;
+      lines = at_ok c.send_nothing.result Write c.send_nothing.ensures.err sent;
       read = search rules;
       memory = search rules;
       write = search rules;
     }
+
+pub returns-in-Ok-clause-lines : goal.returns-in-Ok-clause-lines
+returns-in-Ok-clause-lines g c none =
+    let rule = c.in-Given.ensures.steps in
+    lent_both g.K.Sink _ _ c.ls.new.out.sink.now c.end.new.self.sink.now _ c.new-entries.ensures.sink rule.2.few_lines c.in-Ok.ensures.lines (search rules)
+
+pub returns-in-Ok-cut-clause-lines : goal.returns-in-Ok-cut-clause-lines
+returns-in-Ok-cut-clause-lines g c none =
+    let rule = c.in-Cut.ensures.steps in
+    lent_both g.K.Sink _ _ c.ls.new.out.sink.now c.cut.new.self.sink.now _ c.new-entries.ensures.sink rule.2.few_lines c.in-Ok-cut.ensures.lines (search rules)

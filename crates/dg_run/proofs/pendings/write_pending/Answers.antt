@@ -1,5 +1,6 @@
 use Rattle.std.proofs.Common.{◌≡◌, ◌∙◌, ◌<◌, ◌+◌, ◌∷◌, [], ℕ, List, ap, arith, length, subst, sym}
 use Rattle.std.proofs.lemmas.List.{length-append}
+use Rattle.dg_io.specs.SinkLines.{lines_both}
 use Rattle.dg_io.specs.Told.{Told, Took}
 use Rattle.dg_run.proofs.PendingLists.{marked_below, marked_end, marked_next, marked_within, wrote_next, wrote_next_part}
 use Rattle.dg_text.specs.Replies.{blocks_text}
@@ -30,6 +31,7 @@ loop-block-preserved g c =
       count = ap (λ (n : ℕ). n + 1) inv.count ∙ sym size;
       few = omega (arith, inv.few, some.0);
       told = wrote_next marks c.loop-block.from c.in-Some.block _ _ _ next inv.told c.in_ok-write_block_line.ensures.ok;
+      lines = lines_both 255 g.K.Sink.whole g.K.Sink.calls g.K.Sink.taken c.args.sink.now c.loop-block.sink c.write_block_line.new.sink inv.lines c.in_ok-write_block_line.ensures.lines;
       kept = c.in_ok-write_block_line.ensures.cause.kept ∙ inv.kept;
     }
 

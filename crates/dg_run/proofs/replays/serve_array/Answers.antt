@@ -1,8 +1,9 @@
-use Rattle.std.proofs.Common.{◌≡◌, ◌∙◌, ap, inl, inr, refl}
+use Rattle.std.proofs.Common.{◌≡◌, ◌∙◌, ap, inl, inr, refl, sym}
 use Rattle.std.specs.Prelude.{Err}
 use Rattle.dg_model.specs.declared.replies.Reply.TheVariants.{Done}
 use Rattle.dg_text.specs.Replies.{reply_line}
 use Rattle.dg_run.specs.declared.events.Fault.TheVariants.{Write, NoMemory, Read}
+use Rattle.dg_io.specs.SinkLines.{lines_both}
 use Rattle.dg_run.proofs.Breaks.{broke_off_behind, cut_behind, ran_out_behind}
 use Rattle.dg_io.specs.Told.{AreAny}
 use Rattle.dg_run.proofs.ToldSteps.{Told-refl, any_left}
@@ -37,3 +38,25 @@ returns-clause-broken g c = λ is.
     let fault : c.in-Err.fault ≡ Read = c.status_of.ensures.read.0 is in
     let lines = c.serve_lines.ensures.broken (c.in-Err.is ∙ ap Err fault) in
     broke_off_behind g.R.Rack (reply_line Done) _ c.args.first _ _ _ _ _ _ _ c.in-Ok-send.ensures.ok lines
+
+pub returns-in-Ok-Refused-clause-lines : goal.returns-in-Ok-Refused-clause-lines
+returns-in-Ok-Refused-clause-lines g c none =
+    let served = c.serve_lines.ensures.lines (λ at. let both = sym c.in-Ok-Refused.is ∙ at in cc both) in
+    lines_both 255 g.K.Sink.whole g.K.Sink.calls g.K.Sink.taken c.args.sink.now c.send.new.sink c.refuse.new.sink c.in-Ok-send.ensures.lines
+    (lines_both 255 g.K.Sink.whole g.K.Sink.calls g.K.Sink.taken c.send.new.sink c.serve_lines.new.sink c.refuse.new.sink served (c.refuse.ensures.lines none))
+
+pub returns-clause-source_kept : goal.returns-clause-source_kept
+returns-clause-source_kept g c none = c.serve_lines.ensures.source_kept (λ at.
+    let same : c.in-Err.fault ≡ Read = let both : Err c.in-Err.fault ≡ Err Read = sym c.in-Err.is ∙ at in cc both in
+    none (c.status_of.ensures.read.1 same))
+
+pub returns-clause-sink_kept : goal.returns-clause-sink_kept
+returns-clause-sink_kept g c none = c.serve_lines.ensures.sink_kept (λ at.
+    let same : c.in-Err.fault ≡ Write = let both : Err c.in-Err.fault ≡ Err Write = sym c.in-Err.is ∙ at in cc both in
+    none (c.status_of.ensures.write.1 same)) ∙ c.in-Ok-send.ensures.kept
+
+pub returns-clause-lines : goal.returns-clause-lines
+returns-clause-lines g c none =
+    lines_both 255 g.K.Sink.whole g.K.Sink.calls g.K.Sink.taken c.args.sink.now c.send.new.sink c.serve_lines.new.sink c.in-Ok-send.ensures.lines (c.serve_lines.ensures.lines (λ at.
+    let same : c.in-Err.fault ≡ Write = let both : Err c.in-Err.fault ≡ Err Write = sym c.in-Err.is ∙ at in cc both in
+    none (c.status_of.ensures.write.1 same)))

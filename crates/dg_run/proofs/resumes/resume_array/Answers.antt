@@ -1,5 +1,6 @@
 use Rattle.std.proofs.Common.{◌≡◌, ◌∙◌, ap, inl, inr, sym}
 use Rattle.std.specs.Prelude.{Err}
+use Rattle.dg_io.specs.SinkLines.{lines_both}
 use Rattle.dg_run.proofs.Continuing.{continues_none}
 use Rattle.dg_run.specs.declared.events.Fault.{Fault}
 use Rattle.dg_run.specs.declared.events.Fault.TheVariants.{Read, Write}
@@ -27,5 +28,15 @@ returns-clause-source_kept g c none = c.serve_lines.ensures.source_kept (λ at.
 
 pub returns-clause-sink_kept : goal.returns-clause-sink_kept
 returns-clause-sink_kept g c none = c.serve_lines.ensures.sink_kept (λ at.
+    let same : c.in-Err.fault ≡ Write = let both : Err c.in-Err.fault ≡ Err Write = sym c.in-Err.is ∙ at in cc both in
+    none (c.status_of.ensures.write.1 same))
+
+pub returns-in-Ok-Refused-clause-lines : goal.returns-in-Ok-Refused-clause-lines
+returns-in-Ok-Refused-clause-lines g c none =
+    lines_both 255 g.K.Sink.whole g.K.Sink.calls g.K.Sink.taken c.args.sink.now c.serve_lines.new.sink c.refuse.new.sink
+    (c.serve_lines.ensures.lines (λ at. let both = sym c.in-Ok-Refused.is ∙ at in cc both)) (c.refuse.ensures.lines none)
+
+pub returns-clause-lines : goal.returns-clause-lines
+returns-clause-lines g c none = c.serve_lines.ensures.lines (λ at.
     let same : c.in-Err.fault ≡ Write = let both : Err c.in-Err.fault ≡ Err Write = sym c.in-Err.is ∙ at in cc both in
     none (c.status_of.ensures.write.1 same))

@@ -1,9 +1,10 @@
 use Rattle.std.proofs.Common.{◌≡◌, ◌∙◌, ap, false, refl, subst, sym}
 use Rattle.std.specs.Prelude.{Err}
+use Rattle.dg_io.specs.SinkLines.{LeavesLines, lines_none}
 use Rattle.dg_run.proofs.Completing.{completes}
 use Rattle.dg_run.proofs.Ended.{asked_is, ends_usage, wanted_first, words_refused}
 use Rattle.dg_run.specs.Calls.{facts_of}
-use Rattle.dg_run.specs.Ends.{Ends, reads_input, uses_array}
+use Rattle.dg_run.specs.Ends.{Ends, line_bytes, reads_input, uses_array}
 use Rattle.dg_run.specs.declared.top.Status.TheVariants.{NoMemory}
 use Rattle.dg_words.specs.declared.commands.Command.{Command}
 use Rattle.dg_run.proofs.top.run.Goals as goal
@@ -73,3 +74,17 @@ returns-in-Err-NoMemory-clause-complete g c command words source sink =
     let met = facts_of g.S.Source g.K.Sink g.R.Rack c.args.source.now c.args.source.now c.args.sink.now c.args.sink.now c.args.rack.now c.args.rack.now in
     let tells = g.R.Rack.tells c.args.rack.now in
     completes c.image_has_one_answer.ensures tells met command NoMemory (wanted_first tells met command refl refl) ((λ is. absurd (cc is)), (λ is. absurd (cc is)))
+
+pub returns-in-Ok-clause-lines : goal.returns-in-Ok-clause-lines
+returns-in-Ok-clause-lines g c command words none =
+    let same = asked_is _ c.command.result c.command.ensures.exact c.in-Ok.asked command c.in-Ok.is words in
+    subst (λ (d : Command). LeavesLines (line_bytes d) g.K.Sink.whole g.K.Sink.calls g.K.Sink.taken c.args.sink.now c.serve_command.new.sink) (sym same) (c.serve_command.ensures.lines none)
+
+pub returns-in-Ok-clause-usage_lines : goal.returns-in-Ok-clause-usage_lines
+returns-in-Ok-clause-usage_lines g c = λ none kept. absurd (none c.in-Ok.asked c.in-Ok.ensures.ok)
+
+pub returns-in-Err-Usage-clause-lines : goal.returns-in-Err-Usage-clause-lines
+returns-in-Err-Usage-clause-lines g c command words none = absurd (words_refused _ c.command.result c.command.ensures.exact command (c.in-Err-Usage.is ∙ ap Err c.in-Err-Usage.field-0-is) words)
+
+pub returns-in-Err-NoMemory-clause-lines : goal.returns-in-Err-NoMemory-clause-lines
+returns-in-Err-NoMemory-clause-lines g c command words none = lines_none (line_bytes command) g.K.Sink.whole g.K.Sink.calls g.K.Sink.taken c.args.sink.now

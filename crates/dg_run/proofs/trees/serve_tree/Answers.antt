@@ -3,11 +3,13 @@ use Rattle.std.specs.Prelude.{OnErr, OnOk, codes}
 use Rattle.dg_io.specs.Told.{Told, Took, TookPart}
 use Rattle.dg_model.specs.declared.events.Event.TheVariants.{Tree}
 use Rattle.dg_model.specs.declared.replies.Reply.TheVariants.{Nodes, NodesCut, NotSettled}
-use Rattle.dg_run.proofs.Answers.{answered, answered_part, at_err}
+use Rattle.dg_run.proofs.Answers.{answered, answered_part, at_err, at_ok}
 use Rattle.dg_run.proofs.ArraySteps.{steps_of, weaker_steps}
 use Rattle.dg_run.proofs.FileParts.{part_end, part_lines, part_of_lines, told_end, told_lines}
 use Rattle.dg_run.proofs.NodeLines.{nodes_part, nodes_told, tree_wanted}
 use Rattle.dg_run.proofs.PathReplies.{loose_tree, tree_nothing}
+use Rattle.dg_run.proofs.LentLines.{Leaves, lent, lent_both, nodes_wanted}
+use Rattle.dg_run.specs.declared.events.Fault.TheVariants.{Write}
 use Rattle.dg_saved.specs.PathReplies.{has_reply}
 use Rattle.dg_text.specs.HexLines.{last_line}
 use Rattle.dg_text.specs.ListingLines.{TookEntries, TookEntriesPart}
@@ -123,6 +125,7 @@ returns-in_default-answer g c =
     let steps = steps_of g.R.Rack a b Tree has.reply tt refl rule.1 in
     let ok = subst (λ k. OnOk c.send_nothing.result (Told (Took (reply_line has.reply)) (g.K.Sink.taken k) (g.K.Sink.taken c.send_nothing.new.sink))) (search (rules, rule.0)) (c.send_nothing.ensures.ok has.reply has.is) in
     let err = subst (λ k. OnErr c.send_nothing.result (Told (TookPart (reply_line has.reply)) (g.K.Sink.taken k) (g.K.Sink.taken c.send_nothing.new.sink))) (search (rules, rule.0)) (c.send_nothing.ensures.part has.reply has.is) in
+    let sent = subst (λ k. OnOk c.send_nothing.result (Leaves g.K.Sink k c.send_nothing.new.sink)) (search (rules, rule.0)) c.send_nothing.ensures.lines in
     record {
       goes = search rules;
       answered = answered g.R.Rack Tree has.reply _ _ a b c.send_nothing.result steps ok;
@@ -130,6 +133,28 @@ returns-in_default-answer g c =
       wanting = search rules;
       later = search rules;
       kept = search rules;
+      lines = at_ok c.send_nothing.result Write c.send_nothing.ensures.err sent;
       read = search rules;
       write = search rules;
     }
+
+pub returns-in-Ok-end-clause-lines : goal.returns-in-Ok-end-clause-lines
+returns-in-Ok-end-clause-lines g c none =
+    let rule = rw c.in-Given.is at rw c.in-Is.is at c.in-Ok.ensures.steps in
+    lent_both g.K.Sink _ _ c.tree.new.out.sink.now c.end.new.self.sink.now _ c.new-entries.ensures.sink rule.2.few_lines c.in-Ok-end.ensures.lines (search rules)
+
+pub returns-in-Ok-cut-clause-lines : goal.returns-in-Ok-cut-clause-lines
+returns-in-Ok-cut-clause-lines g c none =
+    let rule = rw c.in-Cut.is at rw c.in-Is.is at c.in-Ok.ensures.steps in
+    lent_both g.K.Sink _ _ c.tree.new.out.sink.now c.cut.new.self.sink.now _ c.new-entries.ensures.sink rule.2.few_lines c.in-Ok-cut.ensures.lines (search rules)
+
+pub returns-in_default-clause-lines : goal.returns-in_default-clause-lines
+returns-in_default-clause-lines g c none =
+    lent g.K.Sink _ _ c.tree.new.out.sink.now _ c.new-entries.ensures.sink (nodes_wanted g.K.Sink (λ reply. StepsTo any_phase any_phase g.R.Rack c.args.array.now.volume Tree reply c.tree.new.self) c.new-entries.result c.tree.new.out c.in_default.ensures.part) (search rules)
+
+pub returns-in_default-told-clause-lines : goal.returns-in_default-told-clause-lines
+returns-in_default-told-clause-lines g c =
+    let a = c.args.array.now in
+    let rule = loose_tree (TookEntries g.K.Sink) (TookEntriesPart g.K.Sink) (λ (s : Lines g.row.K.Denot). g.K.Sink.faults s.sink.now) c.new-entries.result c.tree.new.out
+    (λ reply. StepsTo any_phase any_phase g.R.Rack a.volume Tree reply c.tree.new.self) c.in-Ok.told c.in_default-told.not-Is c.in-Ok.ensures.steps in
+    at_ok c.send.result Write c.send.ensures.err (subst (λ k. OnOk c.send.result (Leaves g.K.Sink k c.send.new.sink)) (search (rules, rule.0)) c.send.ensures.lines)

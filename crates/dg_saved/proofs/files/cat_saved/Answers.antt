@@ -7,6 +7,9 @@ use Rattle.dg_saved.specs.Ends.{EndsCat}
 use Rattle.dg_saved.specs.OpeningLaws.{found_no_state, found_unclean}
 use Rattle.dg_saved.specs.Texts.{cat_text, gives_file}
 use Rattle.dg_volume.specs.Opens.{AnswersOpen}
+use Rattle.dg_saved.proofs.Calls.{nostate_feed, unclean_feed}
+use Rattle.dg_saved.specs.Texts.{nostate_text, unclean_text}
+use Rattle.dg_text.specs.LineWeights.{may_line}
 use Rattle.dg_saved.proofs.files.cat_saved.Goals as goal
 
 pub returns-in-NoState-clause-ends : goal.returns-in-NoState-clause-ends
@@ -30,3 +33,9 @@ returns-clause-ends g c =
     let ends = ends_event g.R.Rack c.args.rack c.in-Opened.volume c.serve_cat-end.new.volume c.in-Opened.field-1 _ _ opened c.serve_cat-end.ensures.leaves
     (Cat c.args.path.now) cat_text gives_file c.serve_cat-end.result c.serve_cat-end.ensures.ends in
     subst (λ r. EndsCat (g.R.Rack.tells r) (facts_of g.K.Sink g.R.Rack c.args.sink.now c.serve_cat-end.new.sink c.args.rack r) c.args.path.now c.serve_cat-end.result) (sym c.into_rack.ensures) ends
+
+pub returns-in-NoState-clause-lines : goal.returns-in-NoState-clause-lines
+returns-in-NoState-clause-lines g c = λ other. c.tell.ensures.lines 1 (may_line 1 nostate_text nostate_feed) other
+
+pub returns-in-Unclean-clause-lines : goal.returns-in-Unclean-clause-lines
+returns-in-Unclean-clause-lines g c = λ other. c.tell-in-Unclean.ensures.lines 1 (may_line 1 unclean_text unclean_feed) other

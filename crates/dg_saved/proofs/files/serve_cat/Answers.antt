@@ -1,4 +1,5 @@
 use Rattle.std.proofs.Common.{rules, subst}
+use Rattle.dg_io.specs.SinkLines.{LeavesLines}
 use Rattle.dg_io.specs.Told.{Told, Took, TookPart}
 use Rattle.dg_model.specs.declared.events.Event.TheVariants.{Cat}
 use Rattle.dg_saved.specs.PathReplies.{cat_nothing, has_reply}
@@ -48,6 +49,7 @@ returns-in-Ok g c =
           (subst (λ k. Told (Took (reply_line has.reply)) (g.K.Sink.taken k) (g.K.Sink.taken c.write_nothing.new.sink)) (search (rules, rule.0)) (c.in-Ok.ensures.ok has.reply has.is));
       write = search rules;
       kept = search rules;
+      lines = λ other. subst (λ k. LeavesLines 1 g.K.Sink.whole g.K.Sink.calls g.K.Sink.taken k c.write_nothing.new.sink) (search (rules, rule.0)) (c.in-Ok.ensures.lines 1);
     }
 
 pub returns-in-Err : goal.returns-in-Err
@@ -63,4 +65,17 @@ returns-in-Err g c =
           (subst (λ k. Told (TookPart (reply_line has.reply)) (g.K.Sink.taken k) (g.K.Sink.taken c.write_nothing.new.sink)) (search (rules, rule.0)) (c.in-Err.ensures.err has.reply has.is));
       write = search rules;
       kept = search rules;
+      lines = search rules;
     }
+
+pub returns-in-Given-clause-lines : goal.returns-in-Given-clause-lines
+returns-in-Given-clause-lines g c = λ other.
+    let rule = c.in-Given.ensures.steps in
+    let lines = subst (λ k. LeavesLines 1 g.K.Sink.whole g.K.Sink.calls g.K.Sink.taken k c.cat.new.out.sink.now) c.new-bytes.ensures.sink rule.2.few_lines in
+    subst (λ k. LeavesLines 1 g.K.Sink.whole g.K.Sink.calls g.K.Sink.taken c.args.sink.now k) (search rules) lines
+
+pub returns-in-Cut-clause-lines : goal.returns-in-Cut-clause-lines
+returns-in-Cut-clause-lines g c = λ other.
+    let rule = c.in-Cut.ensures.steps in
+    let lines = subst (λ k. LeavesLines 1 g.K.Sink.whole g.K.Sink.calls g.K.Sink.taken k c.cat.new.out.sink.now) c.new-bytes.ensures.sink rule.2.few_lines in
+    subst (λ k. LeavesLines 1 g.K.Sink.whole g.K.Sink.calls g.K.Sink.taken c.args.sink.now k) (search rules) lines

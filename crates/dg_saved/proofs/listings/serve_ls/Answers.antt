@@ -1,4 +1,5 @@
 use Rattle.std.proofs.Common.{rules, subst}
+use Rattle.dg_io.specs.SinkLines.{LeavesLines, lines_both}
 use Rattle.dg_io.specs.Told.{Told, Took, TookPart}
 use Rattle.dg_model.specs.declared.events.Event.TheVariants.{Ls}
 use Rattle.dg_saved.specs.PathReplies.{has_reply, ls_nothing}
@@ -65,6 +66,7 @@ returns-in-Ok-write_nothing g c =
           (subst (λ k. Told (Took (reply_line has.reply)) (g.K.Sink.taken k) (g.K.Sink.taken c.write_nothing.new.sink)) (search (rules, rule.0)) (c.in-Ok-write_nothing.ensures.ok has.reply has.is));
       write = search rules;
       kept = search rules;
+      lines = λ other. subst (λ k. LeavesLines 255 g.K.Sink.whole g.K.Sink.calls g.K.Sink.taken k c.write_nothing.new.sink) (search (rules, rule.0)) (c.in-Ok-write_nothing.ensures.lines 255);
     }
 
 pub returns-in-Err-write_nothing : goal.returns-in-Err-write_nothing
@@ -79,4 +81,17 @@ returns-in-Err-write_nothing g c =
           (subst (λ k. Told (TookPart (reply_line has.reply)) (g.K.Sink.taken k) (g.K.Sink.taken c.write_nothing.new.sink)) (search (rules, rule.0)) (c.in-Err-write_nothing.ensures.err has.reply has.is));
       write = search rules;
       kept = search rules;
+      lines = search rules;
     }
+
+pub returns-in-Ok-clause-lines : goal.returns-in-Ok-clause-lines
+returns-in-Ok-clause-lines g c = λ other.
+    let rule = c.in-Given.ensures.steps in
+    let entries = subst (λ k. LeavesLines 255 g.K.Sink.whole g.K.Sink.calls g.K.Sink.taken k c.ls.new.out.sink.now) c.new-entries.ensures.sink rule.2.few_lines in
+    subst (λ k. LeavesLines 255 g.K.Sink.whole g.K.Sink.calls g.K.Sink.taken c.args.sink.now k) (search rules) (lines_both 255 g.K.Sink.whole g.K.Sink.calls g.K.Sink.taken _ _ _ entries c.in-Ok.ensures.lines)
+
+pub returns-in-Cut-clause-lines : goal.returns-in-Cut-clause-lines
+returns-in-Cut-clause-lines g c = λ other.
+    let rule = c.in-Cut.ensures.steps in
+    let lines = subst (λ k. LeavesLines 255 g.K.Sink.whole g.K.Sink.calls g.K.Sink.taken k c.ls.new.out.sink.now) c.new-entries.ensures.sink rule.2.few_lines in
+    subst (λ k. LeavesLines 255 g.K.Sink.whole g.K.Sink.calls g.K.Sink.taken c.args.sink.now k) (search rules) lines

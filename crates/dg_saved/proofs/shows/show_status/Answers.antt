@@ -1,11 +1,15 @@
-use Rattle.std.proofs.Common.{◌∙◌, subst, sym}
+use Rattle.std.proofs.Common.{◌≡◌, ◌∙◌, ℕ, List, subst, sym}
+use Rattle.dg_io.specs.SinkLines.{MayWrite}
 use Rattle.dg_saved.proofs.Opened.{has_shown, shown_ends}
 use Rattle.dg_saved.proofs.Unopened.{no_state_ends, status_unopened, unclean_ends}
 use Rattle.dg_saved.specs.Calls.{facts_of}
 use Rattle.dg_saved.specs.Ends.{EndsStatus}
 use Rattle.dg_saved.specs.OpeningLaws.{found_no_state, found_unclean}
 use Rattle.dg_volume.specs.Opens.{AnswersOpen}
-use Rattle.dg_volume.specs.Volumes.{rack_of}
+use Rattle.dg_volume.specs.Volumes.{any_phase, members_of, phase_of, rack_of, table_of}
+use Rattle.dg_saved.proofs.Calls.{array_feed, nostate_feed, unclean_feed}
+use Rattle.dg_saved.specs.Texts.{array_text, nostate_text, unclean_text}
+use Rattle.dg_text.specs.LineWeights.{may_line}
 use Rattle.dg_saved.proofs.shows.show_status.Goals as goal
 
 pub returns-in-NoState-clause-ends : goal.returns-in-NoState-clause-ends
@@ -33,3 +37,17 @@ returns-clause-ends g c =
     let ends = shown_ends (g.R.Rack.tells (rack_of volume)) (facts_of g.K.Sink g.R.Rack c.args.sink.now c.tell-end.new.sink c.args.rack (rack_of volume)) c.tell-end.result text c.tell-end.ensures.is c.tell-end.ensures.told
     c.tell-end.ensures.part shown in
     subst (λ r. EndsStatus (g.R.Rack.tells r) (facts_of g.K.Sink g.R.Rack c.args.sink.now c.tell-end.new.sink c.args.rack r) c.tell-end.result) (sym c.into_rack.ensures) ends
+
+pub returns-in-NoState-clause-lines : goal.returns-in-NoState-clause-lines
+returns-in-NoState-clause-lines g c = λ other. c.tell.ensures.lines 255 (may_line 255 nostate_text nostate_feed) other
+
+pub returns-in-Unclean-clause-lines : goal.returns-in-Unclean-clause-lines
+returns-in-Unclean-clause-lines g c = λ other. c.tell-in-Unclean.ensures.lines 255 (may_line 255 unclean_text unclean_feed) other
+
+pub returns-clause-lines : goal.returns-clause-lines
+returns-clause-lines g c = λ other.
+    let volume = c.in-Opened.volume in
+    let text : List ℕ = array_text (table_of volume) (members_of volume) (phase_of any_phase volume) in
+    let is : c.deref.result.now ≡ text = c.deref.ensures.value ∙ c.in_ok-text-in-Opened.ensures in
+    let may : MayWrite 255 1 text = may_line 255 text (array_feed (table_of volume) (members_of volume) (phase_of any_phase volume)) in
+    c.tell-end.ensures.lines 255 (subst (λ (shown : List ℕ). MayWrite 255 1 shown) (sym is) may) other

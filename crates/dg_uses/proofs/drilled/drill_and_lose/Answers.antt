@@ -7,8 +7,11 @@ use Rattle.dg_uses.proofs.DrilledLaws.{loses_its_homes}
 use Rattle.dg_words.specs.declared.commands.Command.TheVariants.{Drill}
 use Rattle.dg_uses.proofs.drilled.drill_and_lose.Goals as goal
 
-pub returns : goal.returns
-returns g c = λ seed files asks told none done.
+pub returns-clause-complete : goal.returns-clause-complete
+returns-clause-complete g c = λ seed files asks source sink. c.run.ensures.complete (Drill seed files) asks source sink
+
+pub returns-clause-homes : goal.returns-clause-homes
+returns-clause-homes g c = λ seed files asks told none done.
     let s = c.run in
     let met = facts_of g.S.Source g.K.Sink g.R.Rack c.args.source.now s.new.source c.args.sink.now s.new.sink c.args.rack.now s.new.rack in
     let tells = g.R.Rack.tells s.new.rack in

@@ -12,3 +12,6 @@ returns-clause-read c read = none_rose (c.run-status.ensures.read read)
 
 pub returns-clause-write : goal.returns-clause-write
 returns-clause-write c write = none_rose (c.run-status.ensures.write write)
+
+pub returns-clause-usage : goal.returns-clause-usage
+returns-clause-usage c usage = c.run-status.ensures.usage usage StatusCommand c.in_ok-words.ensures

@@ -2,6 +2,7 @@ use Rattle.std.proofs.Common.{◌≡◌, ◌∷◌, [], ℕ, List, refl, sym, su
 use Rattle.std.proofs.lemmas.List.{append-nil}
 use Rattle.std.proofs.lemmas.Result.{on_ok_weaker, on_err_weaker}
 use Rattle.dg_io.specs.SinkCalls.{LeavesSink}
+use Rattle.dg_io.specs.SinkLines.{lines_of_text}
 use Rattle.dg_io.specs.Told.{Told, Took, TookPart}
 use Rattle.dg_io.specs.declared.outside.Sink.{Ghosts}
 use Rattle.dg_text.specs.LineCalls.{entry_calls}
@@ -12,6 +13,7 @@ use Rattle.dg_text.specs.declared.listing_lines.Lines.{Lines}
 use Rattle.dg_text.specs.declared.listings.Form.{Form}
 use Rattle.dg_text.specs.declared.listings.Form.TheVariants.{Directory, Volume}
 use Rattle.dg_text.proofs.Pieces.{pieces_one}
+use Rattle.dg_text.proofs.ReplyWeights.{line_weight}
 use Rattle.dg_text.proofs.listing_lines.LinesListing.line.Goals as goal
 use Rattle.ufs_model.specs.Listings.{Listed}
 
@@ -31,7 +33,14 @@ took_one : {K : Type 0} (sink : Ghosts K) (old new : Lines K) (entry : Listed) �
     → length entry.name ≤ 255 → LeavesSink sink.whole sink.calls (entry_calls entry) (length (line_in old.form entry)) old.sink.now new.sink.now → TookEntries sink old (entry ∷ []) new
 took_one sink old new entry form same told short calls =
     let P : List ℕ → Type 0 = λ l. Told (Took l) (sink.taken old.sink.now) (sink.taken new.sink.now) in
-    record { form = form; same = same; told = subst P (one_line old.form entry) told; calls = one_call sink old.form entry old.sink.now new.sink.now short calls }
+    record {
+      form = form;
+      same = same;
+      told = subst P (one_line old.form entry) told;
+      calls = one_call sink old.form entry old.sink.now new.sink.now short calls;
+      few_lines = lines_of_text 255 sink.whole sink.calls sink.taken (entry_calls entry) (length (line_in old.form entry)) (line_in old.form entry) old.sink.now new.sink.now
+          (line_weight old.form entry) calls told;
+    }
 
 took_part_of_one : {K : Type 0} (sink : Ghosts K) (old new : Lines K) (entry : Listed) → new.form ≡ old.form → new.sink.ghost_name ≡ old.sink.ghost_name
     → Told (TookPart (line_in old.form entry)) (sink.taken old.sink.now) (sink.taken new.sink.now)
