@@ -84,7 +84,7 @@ module _ {R : Type 0} (ghosts : Ghosts R) (none : (s : R) → ghosts.made s [] s
       → Told (λ p q. (text : List ℕ) × IsCutAt make shape s.events kind p text) x z
   cut_input number kind x z t v s =
       let room : 2 ^ 40 - (first + length (input_of s.events)) ≡ 2 ^ 40 - length (input_of (make ∷ s.events)) =
-          ap (λ (n : ℕ). 2 ^ 40 - n) (let size = m.size in omega (arith, size, length-append (line_of make) (input_of s.events))) in
+      ap (λ (n : ℕ). 2 ^ 40 - n) (let size = m.size in omega (arith, size, length-append (line_of make) (input_of s.events))) in
       Told-then _ _ (λ p q. (text : List ℕ) × IsCutAt make shape s.events kind p text) (λ p q r f refused. (
         q,
         record {
@@ -141,7 +141,7 @@ module _ (Means : List Event → List Reply → Type 0) (make : Event) (shape : 
       let placed : All (IsInPlace (Some shape)) es = subst (λ (h : Shape). All (IsInPlace (Some h)) es) shape_same parts.1.2 in
       let had = cut.only es placed rest in
       let budget : length (line_of make) + length (input_of es) ≤ 2 ^ 40 =
-          subst (λ (e : Event). length (line_of e) + length (input_of es) ≤ 2 ^ 40) same (let e = length-append (line_of event) (input_of es) in let h = input.budget in omega arith) in
+      subst (λ (e : Event). length (line_of e) + length (input_of es) ≤ 2 ^ 40) same (let e = length-append (line_of event) (input_of es) in let h = input.budget in omega arith) in
       past events kind text b cut es had.0 placed had.1 had.2 budget
 
   -- where the text behind the first line is cut, the whole is
@@ -204,8 +204,7 @@ module _ {R : Type 0} (ghosts : Ghosts R) (none : (s : R) → ghosts.made s [] s
       → (final : Moment) × HistoryOf (TellsBoundaries (ghosts.tells (below_of b)) final.state) (ghosts.counts rack) (MakeArray shape ∷ events) (Done ∷ replies) final
   led_of events replies runs =
       let W = runs nothing blank.state blank.stands in
-      let start = standing_of a blank.state in
-      (
+      let start = standing_of a blank.state in (
         on_pairs ghosts W.0,
         (on_pairs ghosts start, blank.makes, history_of ghosts none both law _ start events replies W.0 (course_less ghosts (told_in W.0.state W.1) start events replies W.0 W.2)),
       )
