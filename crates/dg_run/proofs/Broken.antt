@@ -7,39 +7,38 @@ use Rattle.dg_io.specs.Told.{AreAny, Told, Took, TookPart}
 use Rattle.dg_io.specs.declared.outside.Rack.{Ghosts}
 use Rattle.dg_io.specs.RackCalls.{RackCall}
 use Rattle.dg_io.specs.RackWords.{After}
-use Rattle.dg_model.specs.Moments.Kind.{plain}
 use Rattle.dg_regroup.specs.declared.live_racks.LiveRack.{LiveRack}
+use Rattle.dg_model.specs.Moments.{HistoryOf, Moment}
 use Rattle.dg_model.specs.Shapes.{IsShape}
-use Rattle.dg_model.specs.States.{Counts, State}
+use Rattle.dg_model.specs.States.{Counts}
 use Rattle.dg_model.specs.declared.shapes.Shape.{Shape}
 use Rattle.dg_model.specs.declared.events.Event.{Event}
 use Rattle.dg_model.specs.declared.events.Event.TheVariants.{Array as MakeArray}
+use Rattle.dg_model.specs.declared.replies.Reply.{Reply}
 use Rattle.dg_model.specs.declared.replies.Reply.TheVariants.{Done}
 use Rattle.dg_run.specs.declared.arrays.Array.{Array}
-use Rattle.dg_text.specs.Lines.{line_of, input_of, longest, IsInPlace}
+use Rattle.dg_text.specs.Lines.{AreInPlace, line_of, input_of, longest, IsInPlace}
 use Rattle.dg_text.specs.Replies.{output_of, refusal, reply_line}
 use Rattle.dg_run.specs.Arrays.{AnsweredToPart, ArrayCut, ArrayRanOut}
 use Rattle.dg_run.specs.Endings.{GaveLines, LinesBrokeOff, LinesCut, LinesDone, LinesListed, LinesWanted, StartsWith, StopsBefore, TookUpTo}
 use Rattle.dg_run.specs.Events.{Begins}
 use Rattle.dg_run.specs.Inputs.{AwaitsLine, BeginsWithLine}
-use Rattle.dg_run.specs.Replays.{BrokeOff, CutRefusal, CutReply, IsCut, RanOut, RanOutBefore, RanOutBehind, RanOutWithin, StopsAt, TellsBoundaries, WantsFirst}
-use Rattle.dg_run.specs.Histories.{Continues, IsBlankReady, KnownBy, VolumeRunsTo, below_of, boundaries_of, moment_of}
+use Rattle.dg_run.specs.Replays.{BrokeOff, BrokeOffBy, CutRefusalBy, CutReplyBy, IsCutBy, RanOut, RanOutBefore, RanOutBehind, RanOutWithin, StopsAt, TellsBoundaries, WantsFirst, shape_after}
+use Rattle.dg_run.specs.Histories.{Continues, IsBlankReady, RunsBefore, VolumeRunsTo, below_of}
 use Rattle.dg_run.specs.Steps.{shape_of}
-use Rattle.dg_run.proofs.Happening.{history_less, weaker_runs}
+use Rattle.dg_run.proofs.Happening.{weaker_runs}
 use Rattle.dg_run.proofs.Runs.{no_runs}
-use Rattle.dg_volume.specs.Origins.{Always}
-use Rattle.dg_volume.specs.Origins.Origin.{nothing}
 use Rattle.dg_run.proofs.ToldSteps.{Told-each, Told-refl, Told-then}
-use Rattle.dg_run.proofs.Whole.{cut_input, ran_nothing, ran_of, rest_told, same_shape, stops_text, took_first}
+use Rattle.dg_run.proofs.Whole.{Meant, all_in_place, cut_input, led_of, ran_nothing, rest_told, stops_text, took_first}
 
 any_starts : (left rest : Option (List ℕ)) → Told AreAny left rest → Told (StartsWith []) left rest
 any_starts left rest told = Told-each AreAny (StartsWith []) (λ p q any. record { more = p; split = refl }) left rest told
 
-starts_more : (shape : Shape) (events : List Event) (text left rest : Option (List ℕ)) → Told (Begins None (MakeArray shape)) text left → Told (StartsWith (input_of events)) left rest
-    → Told (StartsWith (input_of (MakeArray shape ∷ events))) text rest
-starts_more shape events text left rest line told = Told-then (Begins None (MakeArray shape)) (StartsWith (input_of events)) (StartsWith (input_of (MakeArray shape ∷ events))) (λ p q r f s. record {
+starts_more : (make : Event) (events : List Event) (text left rest : Option (List ℕ)) → Told (Begins None make) text left → Told (StartsWith (input_of events)) left rest
+    → Told (StartsWith (input_of (make ∷ events))) text rest
+starts_more make events text left rest line told = Told-then (Begins None make) (StartsWith (input_of events)) (StartsWith (input_of (make ∷ events))) (λ p q r f s. record {
   more = s.more;
-  split = f.line ∙ ap (λ (l : List ℕ). line_of (MakeArray shape) ++ l) s.split ∙ sym (append_assoc (line_of (MakeArray shape)) (input_of events) s.more);
+  split = f.line ∙ ap (λ (l : List ℕ). line_of make ++ l) s.split ∙ sym (append_assoc (line_of make) (input_of events) s.more);
 }) text left rest line told
 
 -- a text was written, and then a part of another
@@ -83,21 +82,26 @@ broke_off_first now bytes tells x z t v told same = record {
   output = subst (λ (o : Option (List ℕ)). Told (Took []) t o) (sym same) (Told-refl (Took []) (λ b. sym (append-nil b)) t);
 }
 
--- ---- behind a first line that made the array
+-- ---- behind a first line that made an array
+
+-- Behind such a line there is a history of a run, whatever the array stands for now.
+pub record WasLed {R : Type 0} (ghosts : Ghosts R) (before : Counts) (tells : ℕ → Type 0) (make : Event) (a b : Array (LiveRack R)) : Type 0 where
+  pub in_place : (events : List Event) → All (IsInPlace (Some (shape_of a))) events → AreInPlace (make ∷ events)
+  pub led : (events : List Event) (replies : List Reply) → RunsBefore ghosts a events replies b
+      → (final : Moment) × HistoryOf (TellsBoundaries tells final.state) before (make ∷ events) (Done ∷ replies) final
 
 module _ {R : Type 0} (ghosts : Ghosts R) (none : (s : R) → ghosts.made s [] s)
     (both : (a b c : R) (x y : List RackCall) → ghosts.made a x b → ghosts.made b y c → ghosts.made a (x ++ y) c) (law : (a b : R) (made : List RackCall) → ghosts.made a made b → After ghosts made a b)
-    (shape : Shape) (first : ℕ) (rack : R) (a b : Array (LiveRack R)) (is : first ≡ length (line_of (MakeArray shape))) (well : IsShape shape)
-    (blank : IsBlankReady ghosts shape rack a) (goes : Continues ghosts a b) where
-  pub array_broke_off : (text left rest taken given : Option (List ℕ)) → Told (Begins None (MakeArray shape)) text left → LinesBrokeOff ghosts (reply_line Done) (shape_of a) first left rest taken given a b
-      → BrokeOff (ghosts.counts rack) (ghosts.counts (below_of b)) (ghosts.bytes rack) (ghosts.bytes (below_of b)) (ghosts.tells (below_of b)) text rest taken given
+    (Means : List Event → List Reply → Type 0) (make : Event) (shape : Shape) (first : ℕ) (a b : Array (LiveRack R)) (m : Meant ghosts Means make shape first a b) where
+  pub array_broke_off : (text left rest taken given : Option (List ℕ)) → Told (Begins None make) text left → LinesBrokeOff ghosts (reply_line Done) (shape_of a) first left rest taken given a b
+      → BrokeOffBy Means text rest taken given
   array_broke_off text left rest taken given line lines = record {
-    events = MakeArray shape ∷ lines.events;
+    events = make ∷ lines.events;
     replies = Done ∷ lines.replies;
-    ran = ran_of ghosts none both law shape first rack a b is well blank goes lines.events lines.replies (weaker_runs ghosts none both law a b lines.events lines.replies lines.runs) lines.in_place lines.budget;
-    input = Told-then (Begins None (MakeArray shape)) (GaveLines (input_of lines.events)) (GaveLines (input_of (MakeArray shape ∷ lines.events))) (λ p q r f s. record {
+    ran = m.runs lines.events lines.replies (weaker_runs ghosts none both law a b lines.events lines.replies lines.runs) lines.in_place lines.budget;
+    input = Told-then (Begins None make) (GaveLines (input_of lines.events)) (GaveLines (input_of (make ∷ lines.events))) (λ p q r f s. record {
       part = s.part;
-      split = f.line ∙ ap (λ (l : List ℕ). line_of (MakeArray shape) ++ l) s.split ∙ sym (append_assoc (line_of (MakeArray shape)) (input_of lines.events) (s.part ++ r));
+      split = f.line ∙ ap (λ (l : List ℕ). line_of make ++ l) s.split ∙ sym (append_assoc (line_of make) (input_of lines.events) (s.part ++ r));
       none = s.none;
     }) text left rest line lines.input;
     output = lines.output;
@@ -106,37 +110,37 @@ module _ {R : Type 0} (ghosts : Ghosts R) (none : (s : R) → ghosts.made s [] s
   still_runs : b ≡ a → VolumeRunsTo ghosts a [] [] b
   still_runs same = subst (λ (s : Array (LiveRack R)). VolumeRunsTo ghosts a [] [] s) (sym same) (weaker_runs ghosts none both law a a [] [] (no_runs ghosts a))
 
-  first_cut : (text left rest taken given : Option (List ℕ)) → first ≤ 2 ^ 40 → Told (Begins None (MakeArray shape)) text left → Told (TookPart (reply_line Done)) taken given → b ≡ a → Told AreAny left rest
-      → CutReply (ghosts.counts rack) (ghosts.counts (below_of b)) (ghosts.bytes rack) (ghosts.bytes (below_of b)) (ghosts.tells (below_of b)) text rest taken given
+  first_cut : (text left rest taken given : Option (List ℕ)) → first ≤ 2 ^ 40 → Told (Begins None make) text left → Told (TookPart (reply_line Done)) taken given → b ≡ a → Told AreAny left rest
+      → CutReplyBy Means text rest taken given
   first_cut text left rest taken given small line part same any = record {
-    events = MakeArray shape ∷ [];
+    events = make ∷ [];
     replies = [];
     last = Done;
-    ran = ran_of ghosts none both law shape first rack a b is well blank goes [] [] (still_runs same) (λ k d h. absurd (omega arith)) (omega arith);
-    input = starts_more shape [] text left rest line (any_starts left rest any);
+    ran = m.runs [] [] (still_runs same) (λ k d h. absurd (omega arith)) (omega (arith, small));
+    input = starts_more make [] text left rest line (any_starts left rest any);
     output = Told-each (TookPart (reply_line Done)) (TookUpTo [] (reply_line Done)) (λ p q s. record { n = s.0; is = s.1 }) taken given part;
   }
 
-  last_cut : (text left rest taken given : Option (List ℕ)) → Told (Begins None (MakeArray shape)) text left → LinesCut ghosts (reply_line Done) (shape_of a) first left rest taken given a b
-      → CutReply (ghosts.counts rack) (ghosts.counts (below_of b)) (ghosts.bytes rack) (ghosts.bytes (below_of b)) (ghosts.tells (below_of b)) text rest taken given
+  last_cut : (text left rest taken given : Option (List ℕ)) → Told (Begins None make) text left → LinesCut ghosts (reply_line Done) (shape_of a) first left rest taken given a b
+      → CutReplyBy Means text rest taken given
   last_cut text left rest taken given line lines = record {
-    events = MakeArray shape ∷ lines.events;
+    events = make ∷ lines.events;
     replies = Done ∷ lines.replies;
     last = lines.last;
-    ran = ran_of ghosts none both law shape first rack a b is well blank goes lines.events (lines.replies ++ lines.last ∷ []) lines.runs lines.in_place lines.budget;
-    input = starts_more shape lines.events text left rest line lines.input;
+    ran = m.runs lines.events (lines.replies ++ lines.last ∷ []) lines.runs lines.in_place lines.budget;
+    input = starts_more make lines.events text left rest line lines.input;
     output = lines.output;
   }
 
-  refusal_cut : (unread : List ℕ) (text left rest taken given : Option (List ℕ)) → Told (Begins None (MakeArray shape)) text left → AnsweredToPart ghosts (shape_of a) first left (option_map (λ more. unread ++ more) rest) taken given a b
-      → CutRefusal (ghosts.counts rack) (ghosts.counts (below_of b)) (ghosts.bytes rack) (ghosts.bytes (below_of b)) (ghosts.tells (below_of b)) text rest taken given
+  refusal_cut : (unread : List ℕ) (text left rest taken given : Option (List ℕ)) → Told (Begins None make) text left
+      → AnsweredToPart ghosts (shape_of a) first left (option_map (λ more. unread ++ more) rest) taken given a b → CutRefusalBy Means text rest taken given
   refusal_cut unread text left rest taken given line to =
       let s = to.served in
-      let events = MakeArray shape ∷ s.events in
+      let events = make ∷ s.events in
       let ahead = option_map (λ more. unread ++ more) rest in
-      let number : to.number ≡ length (MakeArray shape ∷ s.events) + 1 = omega (arith, s.count) in
-      let cut = cut_input ghosts none both law shape first rack a b is well blank goes to.number to.kind left ahead to.middle to.before s in
-      let stops = stops_text (ghosts.counts rack) (ghosts.counts (below_of b)) (ghosts.bytes rack) (ghosts.bytes (below_of b)) (ghosts.tells (below_of b)) shape well s.events to.kind text left ahead line cut in
+      let number : to.number ≡ length (make ∷ s.events) + 1 = omega (arith, s.count) in
+      let cut = cut_input ghosts none both law Means make shape first a b m to.number to.kind left ahead to.middle to.before s in
+      let stops = stops_text Means make shape m.makes s.events to.kind text left ahead line cut in
       let input = Told-each _ (λ p q. (more : List ℕ) × (p ≡ input_of events ++ more) × StopsAt events to.kind more) (λ p q h. (h.0, h.1, h.2)) text ahead stops in
       let wrote = took_first s.served.replies taken to.middle to.before to.ok s.served.output in
       let part = subst (λ (n : ℕ). Told (TookPart (refusal n to.kind)) to.before given) number to.refused in
@@ -144,102 +148,109 @@ module _ {R : Type 0} (ghosts : Ghosts R) (none : (s : R) → ghosts.made s [] s
         events = events;
         replies = Done ∷ s.served.replies;
         kind = to.kind;
-        ran = ran_of ghosts none both law shape first rack a b is well blank goes s.events s.served.replies (weaker_runs ghosts none both law a b s.events s.served.replies s.served.runs) s.served.in_place s.budget;
+        ran = m.runs s.events s.served.replies (weaker_runs ghosts none both law a b s.events s.served.replies s.served.runs) s.served.in_place s.budget;
         input = rest_told (λ p. (more : List ℕ) × (p ≡ input_of events ++ more) × StopsAt events to.kind more) unread text rest input;
         output = up_to (output_of (Done ∷ s.served.replies)) (refusal (length events + 1) to.kind) taken to.before given wrote part;
       }
 
-  pub array_cut : (unread : List ℕ) (text left rest taken given : Option (List ℕ)) → first ≤ 2 ^ 40 → Told (Begins None (MakeArray shape)) text left
-      → ArrayCut ghosts (shape_of a) first left (option_map (λ more. unread ++ more) rest) rest taken given a b → IsCut (ghosts.counts rack) (ghosts.counts (below_of b)) (ghosts.bytes rack) (ghosts.bytes (below_of b)) (ghosts.tells (below_of b)) text rest taken given
+  pub array_cut : (unread : List ℕ) (text left rest taken given : Option (List ℕ)) → first ≤ 2 ^ 40 → Told (Begins None make) text left
+      → ArrayCut ghosts (shape_of a) first left (option_map (λ more. unread ++ more) rest) rest taken given a b → IsCutBy Means text rest taken given
   array_cut unread text left rest taken given small line (inl at_first) = inl (first_cut text left rest taken given small line at_first.0 at_first.1 at_first.2)
   array_cut unread text left rest taken given small line (inr (inl lines)) = inl (last_cut text left rest taken given line lines)
   array_cut unread text left rest taken given small line (inr (inr to)) = inr (refusal_cut unread text left rest taken given line to)
 
-  -- what is known of the final state
-  told_in : (final : State) → final.boundaries ≡ boundaries_of b → TellsBoundaries (ghosts.tells (below_of b)) final → KnownBy Always ghosts b
-  told_in final is told = ((λ q below. told q (subst (λ (n : ℕ). q / 2 < n) (sym is) below)), tt)
+  module _ (before : Counts) (tells : ℕ → Type 0) (w : WasLed ghosts before tells make a b) where
+    -- the same line is next behind the first one
+    awaits_more : (events : List Event) (text left rest : Option (List ℕ)) → Told (Begins None make) text left
+        → Told (StopsBefore (longest (Some (shape_of a))) (2 ^ 40 - (first + length (input_of events))) (input_of events)) left rest
+        → Told (StopsBefore (longest (shape_after (make ∷ events))) (2 ^ 40 - length (input_of (make ∷ events))) (input_of (make ∷ events))) text rest
+    awaits_more events text left rest line lines =
+        let size : first + length (input_of events) ≡ length (input_of (make ∷ events)) = (let own = m.size in omega (arith, length-append (line_of make) (input_of events), own)) in
+        let next = subst (λ (n : ℕ). Told (StopsBefore (longest (Some (shape_of a))) (2 ^ 40 - n) (input_of events)) left rest) size lines in
+        let here : Some (shape_of a) ≡ shape_after (make ∷ events) = ap (λ (h : Shape). Some h) m.shape_is ∙ sym (m.makes events) in
+        let most = subst (λ (h : Option Shape). Told (StopsBefore (longest h) (2 ^ 40 - length (input_of (make ∷ events))) (input_of events)) left rest) here next in
+        Told-then (Begins None make) (StopsBefore (longest (shape_after (make ∷ events))) (2 ^ 40 - length (input_of (make ∷ events))) (input_of events))
+        (StopsBefore (longest (shape_after (make ∷ events))) (2 ^ 40 - length (input_of (make ∷ events))) (input_of (make ∷ events))) (λ p q r f s. record {
+          more = s.more;
+          split = f.line ∙ ap (λ (l : List ℕ). line_of make ++ l) s.split ∙ sym (append_assoc (line_of make) (input_of events) s.more);
+          next = s.next;
+        }) text left rest line most
 
-  -- the same line is next behind the first one
-  awaits_more : (events : List Event) (text left rest : Option (List ℕ)) → Told (Begins None (MakeArray shape)) text left
-      → Told (StopsBefore (longest (Some (shape_of a))) (2 ^ 40 - (first + length (input_of events))) (input_of events)) left rest
-      → Told (StopsBefore (longest (Some shape)) (2 ^ 40 - length (input_of (MakeArray shape ∷ events))) (input_of (MakeArray shape ∷ events))) text rest
-  awaits_more events text left rest line lines =
-      let size : first + length (input_of events) ≡ length (input_of (MakeArray shape ∷ events)) = omega (arith, length-append (line_of (MakeArray shape)) (input_of events), is) in
-      let here = same_shape ghosts none both law shape first rack a b is well blank goes in
-      let next = subst (λ (n : ℕ). Told (StopsBefore (longest (Some (shape_of a))) (2 ^ 40 - n) (input_of events)) left rest) size lines in
-      let most = subst (λ (s : Shape). Told (StopsBefore (longest (Some s)) (2 ^ 40 - length (input_of (MakeArray shape ∷ events))) (input_of events)) left rest) here next in
-      Told-then (Begins None (MakeArray shape)) (StopsBefore (longest (Some shape)) (2 ^ 40 - length (input_of (MakeArray shape ∷ events))) (input_of events))
-      (StopsBefore (longest (Some shape)) (2 ^ 40 - length (input_of (MakeArray shape ∷ events))) (input_of (MakeArray shape ∷ events))) (λ p q r f s. record {
-        more = s.more;
-        split = f.line ∙ ap (λ (l : List ℕ). line_of (MakeArray shape) ++ l) s.split ∙ sym (append_assoc (line_of (MakeArray shape)) (input_of events) s.more);
-        next = s.next;
-      }) text left rest line most
+    within : (events : List Event) → first + length (input_of events) ≤ 2 ^ 40 → length (input_of (make ∷ events)) ≤ 2 ^ 40
+    within events budget = let own = m.size in omega (arith, own, budget, length-append (line_of make) (input_of events))
 
-  lines_wanted : (text left rest taken given : Option (List ℕ)) → Told (Begins None (MakeArray shape)) text left → LinesWanted ghosts (reply_line Done) (shape_of a) first left rest taken given a b
-      → RanOutBefore (ghosts.counts rack) (ghosts.tells (below_of b)) text rest taken given
-  lines_wanted text left rest taken given line lines =
-      let W = lines.runs nothing blank.state blank.stands in
-      let start = moment_of ghosts a blank.state in
-      record {
-        events = MakeArray shape ∷ lines.events;
-        replies = Done ∷ lines.replies;
-        in_place = (well, subst (λ (s : Shape). All (IsInPlace (Some s)) lines.events) (same_shape ghosts none both law shape first rack a b is well blank goes) lines.in_place);
-        budget = omega (arith, length-append (line_of (MakeArray shape)) (input_of lines.events), lines.budget, is);
-        final = W.0;
-        history = (start, blank.makes, history_less (told_in W.0.state W.1) plain start lines.events lines.replies W.0 W.2);
-        input = awaits_more lines.events text left rest line lines.input;
-        output = lines.output;
-      }
+    lines_wanted : (text left rest taken given : Option (List ℕ)) → Told (Begins None make) text left → LinesWanted ghosts (reply_line Done) (shape_of a) first left rest taken given a b
+        → RanOutBefore before tells text rest taken given
+    lines_wanted text left rest taken given line lines =
+        let led = w.led lines.events lines.replies lines.runs in
+        record {
+          events = make ∷ lines.events;
+          replies = Done ∷ lines.replies;
+          in_place = w.in_place lines.events lines.in_place;
+          budget = within lines.events lines.budget;
+          final = led.0;
+          history = led.1;
+          input = awaits_more lines.events text left rest line lines.input;
+          output = lines.output;
+        }
 
-  lines_done : (text left rest taken given : Option (List ℕ)) → Told (Begins None (MakeArray shape)) text left → LinesDone ghosts (reply_line Done) (shape_of a) first left rest taken given a b
-      → RanOutBehind (ghosts.counts rack) (ghosts.tells (below_of b)) text rest taken given
-  lines_done text left rest taken given line lines =
-      let events = lines.events ++ lines.last ∷ [] in
-      let W = lines.runs nothing blank.state blank.stands in
-      let start = moment_of ghosts a blank.state in
-      record {
-        events = MakeArray shape ∷ lines.events;
-        last = lines.last;
-        replies = Done ∷ lines.replies;
-        notes = lines.notes;
-        in_place = (well, subst (λ (s : Shape). All (IsInPlace (Some s)) events) (same_shape ghosts none both law shape first rack a b is well blank goes) lines.in_place);
-        budget = omega (arith, length-append (line_of (MakeArray shape)) (input_of events), lines.budget, is);
-        final = W.0;
-        history = (start, blank.makes, history_less (told_in W.0.state W.1) plain start events lines.replies W.0 W.2);
-        input = starts_more shape events text left rest line lines.input;
-        output = lines.output;
-      }
+    lines_done : (text left rest taken given : Option (List ℕ)) → Told (Begins None make) text left → LinesDone ghosts (reply_line Done) (shape_of a) first left rest taken given a b
+        → RanOutBehind before tells text rest taken given
+    lines_done text left rest taken given line lines =
+        let events = lines.events ++ lines.last ∷ [] in
+        let led = w.led events lines.replies lines.runs in
+        record {
+          events = make ∷ lines.events;
+          last = lines.last;
+          replies = Done ∷ lines.replies;
+          notes = lines.notes;
+          in_place = w.in_place events lines.in_place;
+          budget = within events lines.budget;
+          final = led.0;
+          history = led.1;
+          input = starts_more make events text left rest line lines.input;
+          output = lines.output;
+        }
 
-  lines_listed : (text left rest taken given : Option (List ℕ)) → Told (Begins None (MakeArray shape)) text left → LinesListed ghosts (reply_line Done) (shape_of a) first left rest taken given a b
-      → RanOutWithin (ghosts.counts rack) (ghosts.tells (below_of b)) text rest taken given
-  lines_listed text left rest taken given line lines =
-      let events = lines.events ++ lines.last ∷ [] in
-      let replies = lines.replies ++ lines.reply ∷ [] in
-      let W = lines.runs nothing blank.state blank.stands in
-      let start = moment_of ghosts a blank.state in
-      record {
-        events = MakeArray shape ∷ lines.events;
-        replies = Done ∷ lines.replies;
-        last = lines.last;
-        reply = lines.reply;
-        text = lines.text;
-        lines = lines.lines;
-        in_place = (well, subst (λ (s : Shape). All (IsInPlace (Some s)) events) (same_shape ghosts none both law shape first rack a b is well blank goes) lines.in_place);
-        budget = omega (arith, length-append (line_of (MakeArray shape)) (input_of events), lines.budget, is);
-        final = W.0;
-        history = (start, blank.makes, history_less (told_in W.0.state W.1) plain start events replies W.0 W.2);
-        input = starts_more shape events text left rest line lines.input;
-        output = took_again (output_of lines.replies) lines.text taken given lines.output;
-      }
+    lines_listed : (text left rest taken given : Option (List ℕ)) → Told (Begins None make) text left → LinesListed ghosts (reply_line Done) (shape_of a) first left rest taken given a b
+        → RanOutWithin before tells text rest taken given
+    lines_listed text left rest taken given line lines =
+        let events = lines.events ++ lines.last ∷ [] in
+        let led = w.led events (lines.replies ++ lines.reply ∷ []) lines.runs in
+        record {
+          events = make ∷ lines.events;
+          replies = Done ∷ lines.replies;
+          last = lines.last;
+          reply = lines.reply;
+          text = lines.text;
+          lines = lines.lines;
+          in_place = w.in_place events lines.in_place;
+          budget = within events lines.budget;
+          final = led.0;
+          history = led.1;
+          input = starts_more make events text left rest line lines.input;
+          output = took_again (output_of lines.replies) lines.text taken given lines.output;
+        }
 
-  pub array_ran_out : (text left rest taken given : Option (List ℕ)) → Told (Begins None (MakeArray shape)) text left → Told (BeginsWithLine (longest None) (2 ^ 40)) text left → ArrayRanOut ghosts (shape_of a) first left rest taken given a b
-      → RanOut (ghosts.counts rack) (ghosts.tells (below_of b)) text rest taken given
-  array_ran_out text left rest taken given line whole (inl none) =
-      ran_out_next (ghosts.counts rack) (ghosts.tells (below_of b)) text rest taken given
-      (Told-then (BeginsWithLine (longest None) (2 ^ 40)) AreAny (AwaitsLine (longest None) (2 ^ 40)) (λ p q r f s. (q, f)) text left rest whole none.1) none.0
-  array_ran_out text left rest taken given line whole (inr (inl lines)) = inr (inl (lines_wanted text left rest taken given line lines))
-  array_ran_out text left rest taken given line whole (inr (inr (inl lines))) = inr (inr (inl (lines_done text left rest taken given line lines)))
-  array_ran_out text left rest taken given line whole (inr (inr (inr lines))) = inr (inr (inr (lines_listed text left rest taken given line lines)))
+    pub array_ran_out : (text left rest taken given : Option (List ℕ)) → Told (Begins None make) text left → Told (BeginsWithLine (longest None) (2 ^ 40)) text left
+        → ArrayRanOut ghosts (shape_of a) first left rest taken given a b → RanOut before tells text rest taken given
+    array_ran_out text left rest taken given line whole (inl none) =
+        ran_out_next before tells text rest taken given
+        (Told-then (BeginsWithLine (longest None) (2 ^ 40)) AreAny (AwaitsLine (longest None) (2 ^ 40)) (λ p q r f s. (q, f)) text left rest whole none.1) none.0
+    array_ran_out text left rest taken given line whole (inr (inl lines)) = inr (inl (lines_wanted text left rest taken given line lines))
+    array_ran_out text left rest taken given line whole (inr (inr (inl lines))) = inr (inr (inl (lines_done text left rest taken given line lines)))
+    array_ran_out text left rest taken given line whole (inr (inr (inr lines))) = inr (inr (inr (lines_listed text left rest taken given line lines)))
+
+-- an array of mirrored pairs
+module _ {R : Type 0} (ghosts : Ghosts R) (none : (s : R) → ghosts.made s [] s)
+    (both : (a b c : R) (x y : List RackCall) → ghosts.made a x b → ghosts.made b y c → ghosts.made a (x ++ y) c) (law : (a b : R) (made : List RackCall) → ghosts.made a made b → After ghosts made a b)
+    (shape : Shape) (first : ℕ) (rack : R) (a b : Array (LiveRack R)) (is : first ≡ length (line_of (MakeArray shape))) (well : IsShape shape)
+    (blank : IsBlankReady ghosts shape rack a) (goes : Continues ghosts a b) where
+  pub was_led : WasLed ghosts (ghosts.counts rack) (ghosts.tells (below_of b)) (MakeArray shape) a b
+  was_led = record {
+    in_place = all_in_place ghosts none both law shape first rack a b is well blank goes;
+    led = led_of ghosts none both law shape first rack a b is well blank goes;
+  }
 
 -- a fresh buffer has nothing ahead of its source
 pub fresh_is : (unread : List ℕ) (left : Option (List ℕ)) → unread ≡ [] → option_map (λ more. unread ++ more) left ≡ left

@@ -1,13 +1,14 @@
--- Events on an array of the boundaries in use are steps from one moment to the next.
+-- Events on an array of the boundaries in use lead from one state and rack to the next.
 use Rattle.std.proofs.Common.{◌≡◌, ◌⊎◌, ◌∙◌, ◌+◌, ◌*◌, ◌/◌, ◌%◌, ◌<◌, ℕ, true, List, [], ◌∷◌, ◌++◌, ap, arith, inl, inr, length, slice_index, refl, subst, sym}
 use Rattle.std.specs.Prelude.{Option, Result, Ok, Err, OnOk}
+use Rattle.dg_io.specs.Makes.{Makes}
 use Rattle.dg_io.specs.RackCalls.{RackCall}
 use Rattle.dg_io.specs.RackWords.{After}
 use Rattle.dg_io.specs.declared.outside.Rack.{Ghosts}
 use Rattle.dg_model.proofs.KnownLaws.{step_less}
 use Rattle.std.proofs.lemmas.List.FromFn.{get_or-range_with_len, length-range_with_len}
 use Rattle.dg_model.specs.Lives.{all_live, member_at}
-use Rattle.dg_model.specs.Moments.{AreCountsOf, Happens, History, IsAllowed, Kind, Moment}
+use Rattle.dg_model.specs.Moments.{AreCountsOf, Happens, History, IsAllowed, Moment}
 use Rattle.dg_model.specs.Moments.Kind.{plain}
 use Rattle.dg_model.specs.States.{State}
 use Rattle.dg_model.specs.Steps.{IsReduced, Step}
@@ -20,7 +21,8 @@ use Rattle.dg_regroup.specs.LiveRacks.{is_there, live_counts, live_in}
 use Rattle.dg_regroup.specs.declared.live_racks.LiveRack.{LiveRack}
 use Rattle.dg_run.proofs.Continuing.{rises, told_volume}
 use Rattle.dg_run.proofs.Segments.{by_place, there_by}
-use Rattle.dg_run.specs.Histories.{Continues, EventAnswered, EventCut, EventDone, EventListed, EventWanted, IsReady, KnownBy, RunsTo, VolumeRunsTo, below_of, boundaries_of, live_of, moment_of}
+use Rattle.dg_run.specs.Courses.{AnswersPairs, Course, Leading, Standing}
+use Rattle.dg_run.specs.Histories.{Continues, EventAnswered, EventCut, EventDone, EventListed, EventWanted, IsReady, KnownBy, RunsTo, VolumeRunsTo, standing_of, below_of, boundaries_of, live_of, on_pairs}
 use Rattle.dg_run.specs.Plain.{IsOfPairs}
 use Rattle.dg_run.specs.Replays.{HoldsInUse}
 use Rattle.dg_run.specs.Steps.{Answered, AnsweredBefore, AnsweredPart, Known, ListedBefore, StandsIn, StepsTo, VolumeStepsTo, WantedFor, rack_of}
@@ -30,34 +32,28 @@ use Rattle.dg_volume.specs.HeldLaws.{holds_all}
 use Rattle.dg_volume.specs.Volumes.{any_phase}
 use Rattle.dg_volume.specs.Volumes as volumes
 
--- ---- what a history takes over
+-- ---- what a course takes over
 
-pub happens_less : {K J : Type 0} (w : J → K) (kind : Kind) (old : Moment) (event : Event) (reply : Reply) (new : Moment) → Happens K kind old event reply new → Happens J kind old event reply new
-happens_less w kind old event reply new h = record { step = step_less w old.state event reply new.state h.step; allowed = h.allowed; rise = h.rise; tied = h.tied }
+pub leading_less : {R K J : Type 0} (rack : Ghosts R) (w : J → K) (old : Standing R) (event : Event) (reply : Reply) (new : Standing R) → Leading rack K old event reply new
+    → Leading rack J old event reply new
+leading_less rack w old event reply new h = record { step = step_less w old.state event reply new.state h.step; answers = h.answers; tied = h.tied; made = h.made }
 
-pub history_less : {K J : Type 0} (w : J → K) (kind : Kind) (old : Moment) (events : List Event) (replies : List Reply) (new : Moment) → History K kind old events replies new
-    → History J kind old events replies new
-history_less w kind old [] [] new h = h
-history_less w kind old [] (reply ∷ replies) new h = absurd h
-history_less w kind old (event ∷ events) [] new h = absurd h
-history_less w kind old (event ∷ events) (reply ∷ replies) new h = (h.0, happens_less w kind old event reply h.0 h.1, history_less w kind h.0 events replies new h.2)
+pub course_less : {R K J : Type 0} (rack : Ghosts R) (w : J → K) (old : Standing R) (events : List Event) (replies : List Reply) (new : Standing R) → Course rack K old events replies new
+    → Course rack J old events replies new
+course_less rack w old [] [] new h = h
+course_less rack w old [] (reply ∷ replies) new h = absurd h
+course_less rack w old (event ∷ events) [] new h = absurd h
+course_less rack w old (event ∷ events) (reply ∷ replies) new h = (h.0, leading_less rack w old event reply h.0 h.1, course_less rack w h.0 events replies new h.2)
 
-pub history_both : (K : Type 0) (kind : Kind) (old : Moment) (events : List Event) (replies : List Reply) (mid : Moment) (more : List Event) (others : List Reply) (new : Moment)
-    → History K kind old events replies mid → History K kind mid more others new → History K kind old (events ++ more) (replies ++ others) new
-history_both K kind old [] [] mid more others new first second = subst (λ (m : Moment). History K kind m more others new) first second
-history_both K kind old [] (reply ∷ replies) mid more others new first second = absurd first
-history_both K kind old (event ∷ events) [] mid more others new first second = absurd first
-history_both K kind old (event ∷ events) (reply ∷ replies) mid more others new first second = (first.0, first.1, history_both K kind first.0 events replies mid more others new first.2 second)
+pub course_both : {R : Type 0} (rack : Ghosts R) (K : Type 0) (old : Standing R) (events : List Event) (replies : List Reply) (mid : Standing R) (more : List Event) (others : List Reply)
+    (new : Standing R) → Course rack K old events replies mid → Course rack K mid more others new → Course rack K old (events ++ more) (replies ++ others) new
+course_both {R = R} rack K old [] [] mid more others new first second = subst (λ (m : Standing R). Course rack K m more others new) first second
+course_both rack K old [] (reply ∷ replies) mid more others new first second = absurd first
+course_both rack K old (event ∷ events) [] mid more others new first second = absurd first
+course_both rack K old (event ∷ events) (reply ∷ replies) mid more others new first second =
+    (first.0, first.1, course_both rack K first.0 events replies mid more others new first.2 second)
 
 -- ---- what mirrored pairs answer
-
--- an array in this state answers as one without a checkpoint and without disks
-abbrev pub AnswersPairs : State → Event → Reply → Type 0
-AnswersPairs state Save (Saved q) = IsReduced state → ⊥
-AnswersPairs state Save (Lost s) = IsReduced state → ⊥
-AnswersPairs state (DropDisk s j) reply = reply ≡ NotParity
-AnswersPairs state (MendDisk s j) reply = reply ≡ NotParity
-AnswersPairs state event reply = Unit {0}
 
 pub allowed_of : (old new : Moment) (event : Event) (reply : Reply) → AnswersPairs old.state event reply → IsAllowed plain old event reply new
 allowed_of old new (Array s) NotParity h = tt
@@ -123,15 +119,32 @@ module _ {R : Type 0} (rack : Ghosts R) (none : (s : R) → rack.made s [] s) (b
       → AreCountsOf state.live (rack.counts (below_of b)) state.counts
   tied_in b state ready stands = subst (λ (s : State). AreCountsOf s.live (rack.counts (below_of b)) s.counts) (sym stands.is) (tied_at b ready)
 
-  pub happens : {P Q : Type 0} (a b : arrays.Array (LiveRack R)) (event : Event) (reply : Reply) (state next : State) → Continues rack a b
-      → volumes.StandsIn any_phase (live rack) Q b.volume next → IsAllowed plain (moment_of rack a state) event reply (moment_of rack b next) → Step P state event reply next
-      → Happens P plain (moment_of rack a state) event reply (moment_of rack b next)
-  happens a b event reply state next goes stands allowed step = record {
+  pub leads_on : {P Q : Type 0} (a b : arrays.Array (LiveRack R)) (event : Event) (reply : Reply) (state next : State) → Continues rack a b
+      → volumes.StandsIn any_phase (live rack) Q b.volume next → AnswersPairs state event reply → Step P state event reply next
+      → Leading rack P (standing_of a state) event reply (standing_of b next)
+  leads_on a b event reply state next goes stands answers step = record {
     step = step;
-    allowed = allowed;
-    rise = rises rack none both law (IsCallBelow (boundaries_of a)) (below_of a) (below_of b) goes.made;
+    answers = answers;
     tied = tied_in b next goes.ready stands;
+    made = subst (λ (n : ℕ). Makes rack (IsCallBelow n) (below_of a) (below_of b)) (sym (ap (λ (s : State). s.boundaries) stands.is ∙ goes.boundaries)) goes.made;
   }
+
+  -- ---- the history of mirrored pairs
+
+  pub happens : {K : Type 0} (old new : Standing R) (event : Event) (reply : Reply) → Leading rack K old event reply new → Happens K plain (on_pairs rack old) event reply (on_pairs rack new)
+  happens old new event reply h = record {
+    step = h.step;
+    allowed = allowed_of (on_pairs rack old) (on_pairs rack new) event reply h.answers;
+    rise = rises rack none both law (IsCallBelow new.state.boundaries) old.rack new.rack h.made;
+    tied = h.tied;
+  }
+
+  pub history_of : (K : Type 0) (old : Standing R) (events : List Event) (replies : List Reply) (new : Standing R) → Course rack K old events replies new
+      → History K plain (on_pairs rack old) events replies (on_pairs rack new)
+  history_of K old [] [] new h = ap (λ (s : Standing R). on_pairs rack s) h
+  history_of K old [] (reply ∷ replies) new h = absurd h
+  history_of K old (event ∷ events) [] new h = absurd h
+  history_of K old (event ∷ events) (reply ∷ replies) new h = (on_pairs rack h.0, happens old h.0 event reply h.1, history_of K h.0 events replies new h.2)
 
   -- what is known by the line is known of the volume
   known_of : {P : Type 0} (b : arrays.Array (LiveRack R)) → IsReady rack b → KnownBy P rack b → Known P (live rack) b
@@ -173,32 +186,32 @@ module _ {R : Type 0} (rack : Ghosts R) (none : (s : R) → rack.made s [] s) (b
       → RunsTo rack a (event ∷ []) (reply ∷ []) b
   runs_of a b event reply goes pairs steps origin state st =
       let one = steps origin state st in
-      let allowed = allowed_of (moment_of rack a state) (moment_of rack b one.0) event reply (pairs_in a state event reply st pairs) in
+      let answers = pairs_in a state event reply st pairs in
       record {
         after = origin;
         next = one.0;
         stands = one.1;
         known = λ tells held. held;
-        history = (moment_of rack b one.0, happens a b event reply state one.0 goes one.1.volume allowed (step_less (known_of b goes.ready) state event reply one.0 one.2), refl);
+        course = (standing_of b one.0, leads_on a b event reply state one.0 goes one.1.volume answers (step_less (known_of b goes.ready) state event reply one.0 one.2), refl);
       }
 
   pub volume_runs_of : (a b : arrays.Array (LiveRack R)) (event : Event) (reply : Reply) → Continues rack a b → IsOfPairs a event reply → VolumeStepsTo (live rack) a event reply b
       → VolumeRunsTo rack a (event ∷ []) (reply ∷ []) b
   volume_runs_of a b event reply goes pairs steps origin state st =
       let one = steps origin state st in
-      let allowed = allowed_of (moment_of rack a state) (moment_of rack b one.0) event reply (pairs_in a state event reply st pairs) in
+      let answers = pairs_in a state event reply st pairs in
       record {
         after = origin;
         next = one.0;
         stands = one.1;
         known = λ tells held. held;
-        history = (moment_of rack b one.0, happens a b event reply state one.0 goes one.1 allowed (step_less (known_of b goes.ready) state event reply one.0 one.2), refl);
+        course = (standing_of b one.0, leads_on a b event reply state one.0 goes one.1 answers (step_less (known_of b goes.ready) state event reply one.0 one.2), refl);
       }
 
   pub weaker_runs : (a b : arrays.Array (LiveRack R)) (events : List Event) (replies : List Reply) → RunsTo rack a events replies b → VolumeRunsTo rack a events replies b
   weaker_runs a b events replies runs origin state st =
       let one = runs origin state st in
-      record { after = one.after; next = one.next; stands = one.stands.volume; known = one.known; history = one.history }
+      record { after = one.after; next = one.next; stands = one.stands.volume; known = one.known; course = one.course }
 
   -- ---- what members hold
 

@@ -16,7 +16,7 @@ use Rattle.dg_model.specs.Blocks.{block_in}
 use Rattle.dg_model.specs.Causes.{Rose}
 use Rattle.dg_model.specs.Lives.{all_live, member_at}
 use Rattle.dg_model.specs.Members.{HasFallen, MembersFall, SlotHolds, SlotOf, partner_of, is_filling, serves}
-use Rattle.dg_model.specs.Moments.{AreCountsOf, History, Moment}
+use Rattle.dg_model.specs.Moments.{AreCountsOf, History}
 use Rattle.dg_model.specs.Moments.Kind.{plain}
 use Rattle.dg_model.specs.Openings.{Found, MayBeGood, Opens, Reduced}
 use Rattle.dg_model.specs.Saves.{Label, SavedState}
@@ -35,10 +35,11 @@ use Rattle.dg_regroup.specs.LivePassing.{own_calls, own_writes, passes_on}
 use Rattle.dg_regroup.specs.LiveRacks.{HasNoneAbsent, is_there, live_in, rack_in}
 use Rattle.dg_regroup.specs.declared.live_racks.LiveRack.{LiveRack}
 use Rattle.dg_run.proofs.Continuing.{others_same, rises, same_name, told_line, told_volume}
-use Rattle.dg_run.proofs.Happening.{history_less, holds_in_use}
+use Rattle.dg_run.proofs.Happening.{course_less, history_of, holds_in_use}
 use Rattle.dg_run.proofs.Segments.{there_by}
 use Rattle.dg_run.specs.Calls.{Facts, met_by}
-use Rattle.dg_run.specs.Histories.{Continues, IsReady, KnownBy, RunsBefore, TellsLine, VolumeRunsTo, below_of, boundaries_of, live_of, moment_of}
+use Rattle.dg_run.specs.Courses.{Course, Standing}
+use Rattle.dg_run.specs.Histories.{Continues, IsReady, KnownBy, RunsBefore, TellsLine, VolumeRunsTo, below_of, boundaries_of, live_of, on_pairs, standing_of}
 use Rattle.dg_run.specs.Opened.{Reached, Resumed, opened_moment}
 use Rattle.dg_run.specs.Resumes.{EndsResume}
 use Rattle.dg_run.specs.Steps.{StandsIn, rack_of, shape_of}
@@ -474,16 +475,17 @@ module _ {R : Type 0} (rack : Ghosts R) (none : (s : R) → rack.made s [] s) (b
         counts_back : record at.state { counts = (live rack).counts (rack_of a) } ≡ at.state
         counts_back = ap (λ (s : State). record s { counts = (live rack).counts (rack_of a) }) at.stands.is ∙ sym at.stands.is
 
-        resumed_to : (events : List Event) (replies : List Reply) (final : Moment) → History (KnownBy (WasHeld (live rack) was) rack b) plain (moment_of rack a at.state) events replies final
+        resumed_to : (events : List Event) (replies : List Reply) (final : Standing R) → Course rack (KnownBy (WasHeld (live rack) was) rack b) (standing_of a at.state) events replies final
             → Resumed told_now met (rack.counts (below_of a)) from V events replies
-        resumed_to events replies final history = record {
+        resumed_to events replies final course = record {
           state = state_below;
           is = opened_as;
           first = (live rack).counts (rack_of a);
           begun = subst (λ (l : List ℕ). AreCountsOf l (rack.counts (below_of a)) ((live rack).counts (rack_of a))) (sym (ap (λ (s : State). s.live) at.stands.is)) counts_opened;
-          final = final;
-          history = subst (λ (s : State). History (IsKnown told_now (met_by met) (rack.counts (below_of a)) from V) plain (moment_of rack a s) events replies final) (sym counts_back)
-              (history_less known_end plain (moment_of rack a at.state) events replies final history);
+          final = on_pairs rack final;
+          history = subst (λ (s : State). History (IsKnown told_now (met_by met) (rack.counts (below_of a)) from V) plain (on_pairs rack (standing_of a s)) events replies (on_pairs rack final))
+              (sym counts_back)
+              (history_of rack none both law _ (standing_of a at.state) events replies final (course_less rack known_end (standing_of a at.state) events replies final course));
         }
 
       pub resumed : (events : List Event) (replies : List Reply) → RunsBefore rack a events replies b → Resumed told_now met (rack.counts (below_of a)) from V events replies
@@ -498,7 +500,7 @@ module _ {R : Type 0} (rack : Ghosts R) (none : (s : R) → rack.made s [] s) (b
           let at = at_first in
           let one = runs was at.state (stands_first at) in
           record {
-            resumed = resumed_to at events replies (moment_of rack b one.next) one.history;
+            resumed = resumed_to at events replies (standing_of b one.next) one.course;
             holds = λ known. let k = known_end known in holds_in_use rack none both law b one.next goes.ready one.stands (k.0, one.known k.0 k.1);
             counts = refl;
           }

@@ -16,8 +16,8 @@ use Rattle.dg_regroup.specs.LiveRacks.{DropsBoundaries, live_count, live_in, nam
 use Rattle.dg_regroup.specs.declared.live_racks.LiveRack.{LiveRack}
 use Rattle.dg_run.proofs.ArraySteps.{steps_of}
 use Rattle.dg_run.proofs.Continuing.{continues_by, continues_out, told_mid, told_volume}
-use Rattle.dg_run.proofs.Happening.{happens, runs_of}
-use Rattle.dg_run.specs.Histories.{Continues, IsReady, KnownBy, RunsTo, TellsLine, below_of, moment_of}
+use Rattle.dg_run.proofs.Happening.{leads_on, runs_of}
+use Rattle.dg_run.specs.Histories.{Continues, IsReady, KnownBy, RunsTo, TellsLine, below_of, standing_of}
 use Rattle.dg_run.specs.Regroups.{regroup_reply}
 use Rattle.dg_run.specs.Steps.{rack_of}
 use Rattle.dg_run.specs.declared.arrays.Array.{Array}
@@ -68,7 +68,7 @@ module _ {R : Type 0} (rack : Ghosts R) (none : (s : R) → rack.made s [] s) (b
           sized = regroup_sized state r c one.0 one.2.1 st.sized;
         };
         known = known;
-        history = (moment_of rack b one.0, happens rack none both law a b Regroup (RegroupedReply r c) state one.0 on one.1 tt step, refl);
+        course = (standing_of b one.0, leads_on rack none both law a b Regroup (RegroupedReply r c) state one.0 on one.1 tt step, refl);
       }
 
   pub runs_answer : (a b : Array (LiveRack R)) (answer : RegroupAnswer) → IsReady rack a → b.hot ≡ a.hot → GoesOn volumes.any_phase (live rack) a.volume b.volume

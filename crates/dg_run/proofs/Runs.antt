@@ -5,7 +5,6 @@ use Rattle.std.proofs.lemmas.List.{append-nil}
 use Rattle.std.proofs.lemmas.List.Concat.{flat_map-append}
 use Rattle.std.proofs.lemmas.List.Elements.{All-append}
 use Rattle.dg_io.specs.declared.outside.Rack.{Ghosts}
-use Rattle.dg_model.specs.Moments.Kind.{plain}
 use Rattle.dg_model.specs.States.{State}
 use Rattle.dg_regroup.specs.LiveGhosts.{live}
 use Rattle.dg_regroup.specs.declared.live_racks.LiveRack.{LiveRack}
@@ -23,14 +22,14 @@ use Rattle.dg_text.specs.Replies.{reply_line, output_of}
 use Rattle.dg_text.specs.declared.lines.BadLine.{BadLine}
 use Rattle.dg_run.specs.Events.{IsRefused}
 use Rattle.dg_run.specs.Lines.{BeginsAll, Served, ServedLine, AllServed, ServedTo, Turned, LinesEndAt}
-use Rattle.dg_run.specs.Histories.{KnownBy, Leads, RunsBefore, RunsTo, TellsLine, VolumeRunsTo, boundaries_of, moment_of}
+use Rattle.dg_run.specs.Histories.{KnownBy, Leads, RunsBefore, RunsTo, TellsLine, VolumeRunsTo, standing_of, boundaries_of}
 use Rattle.dg_run.specs.Steps.{GoesOn, IsSound, StandsIn}
 use Rattle.dg_run.specs.declared.lines.Turn.{Turn}
 use Rattle.dg_run.specs.declared.lines.Turn.TheVariants.{Served as turn_served, End as turn_end, Refused as turn_refused}
 use Rattle.dg_run.specs.declared.lines.LinesEnd.{LinesEnd}
 use Rattle.dg_run.specs.declared.lines.LinesEnd.TheVariants.{Input as input_end, Refused as line_refused}
 use Rattle.dg_run.proofs.Inputs.{All-one, begins_none, begins_more}
-use Rattle.dg_run.proofs.Happening.{history_both, history_less}
+use Rattle.dg_run.proofs.Happening.{course_both, course_less}
 use Rattle.dg_run.proofs.ToldSteps.{Told-refl, Told-then}
 
 -- nothing was done to an array
@@ -63,9 +62,9 @@ module _ {R : Type 0} (rack : Ghosts R) where
         next = two.next;
         stands = two.stands;
         known = λ tells held. two.known tells (one.known (told tells) held);
-        history = history_both K plain (moment_of rack a state) es rs (moment_of rack b one.next) fs ss (moment_of rack c two.next)
-            (history_less (λ k. (told k.0, k.1)) plain (moment_of rack a state) es rs (moment_of rack b one.next) one.history)
-            (history_less (λ k. (k.0, one.known (told k.0) k.1)) plain (moment_of rack b one.next) fs ss (moment_of rack c two.next) two.history);
+        course = course_both rack K (standing_of a state) es rs (standing_of b one.next) fs ss (standing_of c two.next)
+            (course_less rack (λ k. (told k.0, k.1)) (standing_of a state) es rs (standing_of b one.next) one.course)
+            (course_less rack (λ k. (k.0, one.known (told k.0) k.1)) (standing_of b one.next) fs ss (standing_of c two.next) two.course);
       }
 
   pub runs_more : (a b c : Array (LiveRack R)) (es : List Event) (rs : List Reply) (e : Event) (r : Reply) → RunsTo rack a es rs b → RunsTo rack b (e ∷ []) (r ∷ []) c
@@ -80,22 +79,22 @@ module _ {R : Type 0} (rack : Ghosts R) where
 
   -- no event
   pub no_runs : (a : Array (LiveRack R)) → RunsTo rack a [] [] a
-  no_runs a origin state st = record { after = origin; next = state; stands = st; known = λ tells held. held; history = refl }
+  no_runs a origin state st = record { after = origin; next = state; stands = st; known = λ tells held. held; course = refl }
 
   -- what the array stands for now isn't told
   pub runs_before : (a b c : Array (LiveRack R)) (es : List Event) (rs : List Reply) → RunsTo rack a es rs b → boundaries_of c ≡ boundaries_of b → (TellsLine rack c → TellsLine rack b)
       → RunsBefore rack a es rs c
   runs_before a b c es rs runs same told origin state st =
       let one = runs origin state st in (
-        moment_of rack b one.next,
+        standing_of b one.next,
         ap (λ (s : State). s.boundaries) one.stands.volume.is ∙ sym same,
-        history_less (λ k. (told k.0, k.1)) plain (moment_of rack a state) es rs (moment_of rack b one.next) one.history,
+        course_less rack (λ k. (told k.0, k.1)) (standing_of a state) es rs (standing_of b one.next) one.course,
       )
 
   pub volume_runs_before : (a c : Array (LiveRack R)) (es : List Event) (rs : List Reply) → VolumeRunsTo rack a es rs c → RunsBefore rack a es rs c
   volume_runs_before a c es rs runs origin state st =
       let one = runs origin state st in
-      (moment_of rack c one.next, ap (λ (s : State). s.boundaries) one.stands.is, one.history)
+      (standing_of c one.next, ap (λ (s : State). s.boundaries) one.stands.is, one.course)
 
   pub output_more : (rs : List Reply) (r : Reply) (x y z : Option (List ℕ)) → Told (Took (output_of rs)) x y → Told (Took (reply_line r)) y z → Told (Took (output_of (rs ++ r ∷ []))) x z
   output_more rs r x y z p q = Told-then _ _ (Took (output_of (rs ++ r ∷ []))) (λ a b c f s.

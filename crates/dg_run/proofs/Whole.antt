@@ -4,8 +4,7 @@ use Rattle.std.specs.Prelude.{false, Option, Some, None, All, Result, Ok, Err, I
 use Rattle.std.proofs.lemmas.List.{append_cancel_left}
 use Rattle.std.proofs.lemmas.List.Concat.{flat_map-append}
 use Rattle.dg_model.specs.Shapes.{IsShape}
-use Rattle.dg_model.specs.Moments.{Moment}
-use Rattle.dg_model.specs.Moments.Kind.{plain}
+use Rattle.dg_model.specs.Moments.{HistoryOf, Moment}
 use Rattle.dg_model.specs.States.{Counts, State, plain_state}
 use Rattle.dg_io.specs.Makes.{Makes}
 use Rattle.dg_io.specs.MakesLaws.{makes_both}
@@ -14,8 +13,8 @@ use Rattle.dg_io.specs.RackWords.{After}
 use Rattle.dg_io.specs.declared.outside.Rack.{Ghosts}
 use Rattle.dg_regroup.specs.declared.live_racks.LiveRack.{LiveRack}
 use Rattle.dg_run.proofs.Continuing.{others_counts, others_same}
-use Rattle.dg_run.proofs.Happening.{history_less, holds_in_use, weaker_runs}
-use Rattle.dg_run.specs.Histories.{Continues, IsBlankReady, KnownBy, VolumeRunsTo, below_of, boundaries_of, moment_of}
+use Rattle.dg_run.proofs.Happening.{course_less, history_of, holds_in_use, weaker_runs}
+use Rattle.dg_run.specs.Histories.{Continues, IsBlankReady, KnownBy, RunsBefore, VolumeRunsTo, below_of, boundaries_of, on_pairs, standing_of}
 use Rattle.dg_run.specs.Steps.{shape_of}
 use Rattle.dg_store.specs.Leaves.{IsCallBelow}
 use Rattle.dg_model.specs.declared.shapes.Shape.{Shape}
@@ -27,7 +26,7 @@ use Rattle.dg_model.specs.declared.members.MemberState.TheVariants.{Out}
 use Rattle.dg_io.specs.MadeLaws.{same_told}
 use Rattle.dg_io.specs.Told.{Told, Took, TookPart}
 use Rattle.dg_run.specs.declared.arrays.Array.{Array}
-use Rattle.dg_text.specs.Lines.{line_of, input_of, IsInPlace}
+use Rattle.dg_text.specs.Lines.{AreInPlace, line_of, input_of, IsInPlace}
 use Rattle.dg_text.specs.Replies.{reply_line, output_of, refusal}
 use Rattle.dg_text.specs.declared.lines.BadLine.{BadLine as Kind}
 use Rattle.dg_text.specs.declared.lines.BadLine.TheVariants.{Cut}
@@ -35,7 +34,7 @@ use Rattle.dg_run.specs.Events.{Begins, IsRefused}
 use Rattle.dg_run.specs.Lines.{Served, ServedTo}
 use Rattle.dg_run.specs.Endings.{TookUpTo}
 use Rattle.dg_run.specs.Refusals.{IsRefusedBy}
-use Rattle.dg_run.specs.Replays.{CutRefusal, IsCut, IsNoInput, OthersKept, Ran, Replayed, Stopped, StopsAt, TellsBoundaries}
+use Rattle.dg_run.specs.Replays.{CutRefusal, IsCut, IsNoInput, OthersKept, Ran, ReplayedBy, Stopped, StoppedBy, StopsAt, TellsBoundaries, shape_after}
 use Rattle.dg_run.specs.Arrays.{AllAnswered, AnsweredTo, ArrayReplayed, ArrayStopped, IsCutAt}
 use Rattle.dg_run.proofs.Inputs.{All-head, All-right, no_line}
 use Rattle.dg_volume.specs.Origins.{Always}
@@ -51,13 +50,130 @@ took_first rs t m v p q = Told-then _ _ (Took (output_of (Done ∷ rs))) (λ a b
 pub took_last : (text last : List ℕ) (t m v : Option (List ℕ)) → Told (Took text) t m → Told (Took last) m v → Told (Took (text ++ last)) t v
 took_last text last t m v p q = Told-then _ _ (Took (text ++ last)) (λ a b c f s. s ∙ ap (λ (l : List ℕ). l ++ last) f ∙ append_assoc a text last) t m v p q
 
+-- Behind a first line that made an array the replies are those of a run that means something, from that line on.
+pub record Meant {R : Type 0} (ghosts : Ghosts R) (Means : List Event → List Reply → Type 0) (make : Event) (shape : Shape) (first : ℕ) (a b : Array (LiveRack R)) : Type 0 where
+  pub size : first ≡ length (line_of make)
+  pub shape_is : shape_of a ≡ shape
+  pub makes : (events : List Event) → shape_after (make ∷ events) ≡ Some shape
+  pub runs : (events : List Event) (replies : List Reply) → VolumeRunsTo ghosts a events replies b → All (IsInPlace (Some (shape_of a))) events → first + length (input_of events) ≤ 2 ^ 40
+      → Means (make ∷ events) (Done ∷ replies)
+
+-- the first event of an input is one that may stand there, and the others are in their places behind it
+first_in_place : (event : Event) (events : List Event) → AreInPlace (event ∷ events)
+    → IsInPlace None event × ((shape : Shape) × (shape_after (event ∷ events) ≡ Some shape) × All (IsInPlace (Some shape)) events)
+first_in_place (MakeArray s) events placed = (placed.0, (s, refl, placed.1))
+first_in_place event events placed = absurd placed
+
+module _ {R : Type 0} (ghosts : Ghosts R) (none : (s : R) → ghosts.made s [] s)
+    (both : (a b c : R) (x y : List RackCall) → ghosts.made a x b → ghosts.made b y c → ghosts.made a (x ++ y) c) (law : (a b : R) (made : List RackCall) → ghosts.made a made b → After ghosts made a b)
+    (Means : List Event → List Reply → Type 0) (make : Event) (shape : Shape) (first : ℕ) (a b : Array (LiveRack R)) (m : Meant ghosts Means make shape first a b) where
+  whole_runs : (events : List Event) (x z t v : Option (List ℕ)) → (served : Served ghosts (shape_of a) events x z t v a b) → first + length (input_of events) ≤ 2 ^ 40
+      → Means (make ∷ events) (Done ∷ served.replies)
+  whole_runs events x z t v served budget = m.runs events served.replies (weaker_runs ghosts none both law a b events served.replies served.runs) served.in_place budget
+
+  pub array_replayed : (x z t v : Option (List ℕ)) → AllAnswered ghosts (shape_of a) first x z t v a b → ArrayReplayed Means make x z t v
+  array_replayed x z t v all = record {
+    events = all.served.events;
+    replies = all.served.served.replies;
+    ran = whole_runs all.served.events x z all.middle v all.served.served all.served.budget;
+    input = all.served.end;
+    output = took_first all.served.served.replies t all.middle v all.ok all.served.served.output;
+  }
+
+  pub cut_input : (number : ℕ) (kind : Kind) (x z t m : Option (List ℕ)) → (s : ServedTo ghosts (shape_of a) first 2 number kind x z t m a b)
+      → Told (λ p q. (text : List ℕ) × IsCutAt make shape s.events kind p text) x z
+  cut_input number kind x z t v s =
+      let room : 2 ^ 40 - (first + length (input_of s.events)) ≡ 2 ^ 40 - length (input_of (make ∷ s.events)) =
+      ap (λ (n : ℕ). 2 ^ 40 - n) (let size = m.size in omega (arith, size, length-append (line_of make) (input_of s.events))) in
+      Told-then _ _ (λ p q. (text : List ℕ) × IsCutAt make shape s.events kind p text) (λ p q r f refused. (
+        q,
+        record {
+          lines = f.lines;
+          refused = subst (λ (n : ℕ). IsRefused (Some shape) n q kind) room (subst (λ (h : Shape). IsRefused (Some h) (2 ^ 40 - (first + length (input_of s.events))) q kind) m.shape_is refused);
+          only = λ others placed made. f.only others (subst (λ (h : Shape). All (IsInPlace (Some h)) others) (sym m.shape_is) placed) made;
+        },
+      )) x s.middle z s.served.input s.refused
+
+  pub array_stopped : (x z t v : Option (List ℕ)) → AnsweredTo ghosts (shape_of a) first x z t v a b → ArrayStopped Means make shape x z t v
+  array_stopped x z t v to =
+      let s = to.served in
+      record {
+        events = s.events;
+        replies = s.served.replies;
+        kind = to.kind;
+        ran = whole_runs s.events x s.middle to.middle to.before s.served s.budget;
+        input = cut_input to.number to.kind x z to.middle to.before s;
+        output = took_last (output_of (Done ∷ s.served.replies)) (refusal (length s.events + 2) to.kind) t to.before v
+            (took_first s.served.replies t to.middle to.before to.ok s.served.output)
+            (subst (λ (n : ℕ). Told (Took (refusal n to.kind)) to.before v) s.count to.refused);
+      }
+
+module _ (Means : List Event → List Reply → Type 0) (make : Event) (shape : Shape) (makes : (events : List Event) → shape_after (make ∷ events) ≡ Some shape) where
+  pub replayed : (x y z t v : Option (List ℕ)) → Told (Begins None make) x y → ArrayReplayed Means make y z t v → ReplayedBy Means x z t v
+  replayed x y z t v line rest = record {
+    events = make ∷ rest.events;
+    replies = Done ∷ rest.replies;
+    some = λ e. cc e;
+    ran = rest.ran;
+    input = Told-then _ _ (λ p r. (p ≡ input_of (make ∷ rest.events)) × (r ≡ [])) (λ p q r f s. (f.line ∙ ap (λ (l : List ℕ). line_of make ++ l) s.0, s.1)) x y z line rest.input;
+    output = rest.output;
+  }
+
+  -- no event of an input stands where it is cut
+  past : (events : List Event) (kind : Kind) (text b : List ℕ) → IsCutAt make shape events kind b text → (es more : List Event) → All (IsInPlace (Some shape)) es → es ≡ events ++ more → text ≡ input_of more
+      → length (line_of make) + length (input_of es) ≤ 2 ^ 40 → ⊥
+  past events kind text b cut es [] placed split made budget = cut.refused.some made
+  past events kind text b cut es (m ∷ ms) placed split made budget =
+      let here : IsInPlace (Some shape) m = All-head (IsInPlace (Some shape)) m ms (All-right (IsInPlace (Some shape)) events (m ∷ ms) (subst (λ (l : List Event). All (IsInPlace (Some shape)) l) split placed)) in
+      let over = cut.refused.none m (input_of ms) here made in
+      let size : length (input_of es) ≡ length (input_of events ++ input_of (m ∷ ms)) = ap (λ (l : List Event). length (input_of l)) split ∙ ap length (flat_map-append line_of events (m ∷ ms)) in
+      absurd (omega (arith, size, over, budget, length-append (input_of events) (input_of (m ∷ ms)), length-append (line_of m) (input_of ms), length-append (line_of make) (input_of events)))
+
+  -- lines of a whole input can't be cut there
+  no_input : (events : List Event) (kind : Kind) (a b text : List ℕ) → Begins None make a b → IsCutAt make shape events kind b text → IsNoInput a
+  no_input events kind a b text line cut [] input is = absurd (input.some refl)
+  no_input events kind a b text line cut (event ∷ es) input is =
+      let parts = first_in_place event es input.in_place in
+      let same : event ≡ make = line.only event (input_of es) parts.0 is in
+      let shapes : Some parts.1.0 ≡ Some shape = sym parts.1.1 ∙ ap (λ (e : Event). shape_after (e ∷ es)) same ∙ makes es in
+      let shape_same : parts.1.0 ≡ shape = cc shapes in
+      let rest : b ≡ input_of es = append_cancel_left (line_of make) b (input_of es) (sym line.line ∙ is ∙ ap (λ (e : Event). line_of e ++ input_of es) same) in
+      let placed : All (IsInPlace (Some shape)) es = subst (λ (h : Shape). All (IsInPlace (Some h)) es) shape_same parts.1.2 in
+      let had = cut.only es placed rest in
+      let budget : length (line_of make) + length (input_of es) ≤ 2 ^ 40 =
+      subst (λ (e : Event). length (line_of e) + length (input_of es) ≤ 2 ^ 40) same (let e = length-append (line_of event) (input_of es) in let h = input.budget in omega arith) in
+      past events kind text b cut es had.0 placed had.1 had.2 budget
+
+  -- where the text behind the first line is cut, the whole is
+  pub stops_text : (events : List Event) (kind : Kind) (x y z : Option (List ℕ)) → Told (Begins None make) x y → Told (λ p q. (text : List ℕ) × IsCutAt make shape events kind p text) y z
+      → Told (λ p q. (text : List ℕ) × (p ≡ input_of (make ∷ events) ++ text) × StopsAt (make ∷ events) kind text × IsNoInput p) x z
+  stops_text events kind x y z line cut = Told-then _ _ (λ p r. (text : List ℕ) × (p ≡ input_of (make ∷ events) ++ text) × StopsAt (make ∷ events) kind text × IsNoInput p) (λ p q r f s. (
+    s.0,
+    f.line ∙ ap (λ (l : List ℕ). line_of make ++ l) s.1.lines ∙ sym (append_assoc (line_of make) (input_of events) s.0),
+    record {
+      by_kind = subst (λ (h : Option Shape). IsRefusedBy h (2 ^ 40 - length (input_of (make ∷ events))) s.0 kind) (sym (makes events)) s.1.refused.by_kind;
+      some = λ e. absurd (s.1.refused.some e);
+      none = λ event tail placed. s.1.refused.none event tail (subst (λ (h : Option Shape). IsInPlace h event) (makes events) placed);
+    },
+    no_input events kind p q s.0 f s.1,
+  )) x y z line cut
+
+  pub stopped : (x y z t v : Option (List ℕ)) → Told (Begins None make) x y → ArrayStopped Means make shape y z t v → StoppedBy Means x z t v
+  stopped x y z t v line rest = record {
+    events = make ∷ rest.events;
+    replies = Done ∷ rest.replies;
+    kind = rest.kind;
+    ran = rest.ran;
+    input = stops_text rest.events rest.kind x y z line rest.input;
+    output = subst (λ (n : ℕ). Told (Took (output_of (Done ∷ rest.replies) ++ refusal n rest.kind)) t v) (omega arith) rest.output;
+  }
+
+-- ---- an array of mirrored pairs
+
 module _ {R : Type 0} (ghosts : Ghosts R) (none : (s : R) → ghosts.made s [] s)
     (both : (a b c : R) (x y : List RackCall) → ghosts.made a x b → ghosts.made b y c → ghosts.made a (x ++ y) c) (law : (a b : R) (made : List RackCall) → ghosts.made a made b → After ghosts made a b)
     (shape : Shape) (first : ℕ) (rack : R) (a b : Array (LiveRack R)) (is : first ≡ length (line_of (MakeArray shape))) (well : IsShape shape)
     (blank : IsBlankReady ghosts shape rack a) (goes : Continues ghosts a b) where
-  pub same_shape : shape_of a ≡ shape
-  same_shape = blank.shape_is
-
   -- the calls from the first line on
   pub made_all : Makes ghosts (IsCallBelow shape.b) rack (below_of b)
   made_all = makes_both ghosts (IsCallBelow shape.b) rack (below_of a) (below_of b) blank.made
@@ -72,116 +188,46 @@ module _ {R : Type 0} (ghosts : Ghosts R) (none : (s : R) → ghosts.made s [] s
         faults = λ q past. others_counts ghosts none both law shape.b rack (below_of b) made_all q (subst (λ (n : ℕ). n ≤ q / 2) line past);
       }
 
+  -- events behind the first line are in their places from there on, and keep to the budget
+  pub all_in_place : (events : List Event) → All (IsInPlace (Some (shape_of a))) events → AreInPlace (MakeArray shape ∷ events)
+  all_in_place events placed = (well, subst (λ (s : Shape). All (IsInPlace (Some s)) events) blank.shape_is placed)
+
+  pub all_in_budget : (events : List Event) → first + length (input_of events) ≤ 2 ^ 40 → length (input_of (MakeArray shape ∷ events)) ≤ 2 ^ 40
+  all_in_budget events budget = omega (arith, is, budget, length-append (line_of (MakeArray shape)) (input_of events))
+
+  -- what is known of a final state
+  told_in : (final : State) → final.boundaries ≡ boundaries_of b → TellsBoundaries (ghosts.tells (below_of b)) final → KnownBy Always ghosts b
+  told_in final line told = ((λ q below. told q (subst (λ (n : ℕ). q / 2 < n) (sym line) below)), tt)
+
+  -- the history of a run, of which it isn't told what the array stands for now
+  pub led_of : (events : List Event) (replies : List Reply) → RunsBefore ghosts a events replies b
+      → (final : Moment) × HistoryOf (TellsBoundaries (ghosts.tells (below_of b)) final.state) (ghosts.counts rack) (MakeArray shape ∷ events) (Done ∷ replies) final
+  led_of events replies runs =
+      let W = runs nothing blank.state blank.stands in
+      let start = standing_of a blank.state in (
+        on_pairs ghosts W.0,
+        (on_pairs ghosts start, blank.makes, history_of ghosts none both law _ start events replies W.0 (course_less ghosts (told_in W.0.state W.1) start events replies W.0 W.2)),
+      )
+
   pub ran_of : (events : List Event) (replies : List Reply) → VolumeRunsTo ghosts a events replies b → All (IsInPlace (Some (shape_of a))) events → first + length (input_of events) ≤ 2 ^ 40
       → Ran (ghosts.counts rack) (ghosts.counts (below_of b)) (ghosts.bytes rack) (ghosts.bytes (below_of b)) (ghosts.tells (below_of b)) (MakeArray shape ∷ events) (Done ∷ replies)
   ran_of events replies runs placed budget =
       let W = runs nothing blank.state blank.stands in
-      let final = moment_of ghosts b W.next in
+      let start = standing_of a blank.state in
+      let final = standing_of b W.next in
       let line : W.next.boundaries ≡ boundaries_of b = ap (λ (s : State). s.boundaries) W.stands.is in
-      let known : TellsBoundaries (ghosts.tells (below_of b)) W.next → KnownBy Always ghosts b =
-      λ told. ((λ q below. told q (subst (λ (n : ℕ). q / 2 < n) (sym line) below)), tt) in
       record {
-        in_place = (well, subst (λ (s : Shape). All (IsInPlace (Some s)) events) same_shape placed);
-        budget = omega (arith, length-append (line_of (MakeArray shape)) (input_of events));
-        final = final;
-        history = (moment_of ghosts a blank.state, blank.makes, history_less known plain (moment_of ghosts a blank.state) events replies final W.history);
-        holds = λ told. holds_in_use ghosts none both law b W.next goes.ready W.stands (let k = known told in (k.0, W.known k.0 k.1));
+        in_place = all_in_place events placed;
+        budget = all_in_budget events budget;
+        final = on_pairs ghosts final;
+        history = (on_pairs ghosts start, blank.makes, history_of ghosts none both law _ start events replies final (course_less ghosts (told_in W.next line) start events replies final W.course));
+        holds = λ told. holds_in_use ghosts none both law b W.next goes.ready W.stands (let k = told_in W.next line told in (k.0, W.known k.0 k.1));
         others = subst (λ (n : ℕ). OthersKept n (ghosts.counts rack) (ghosts.counts (below_of b)) (ghosts.bytes rack) (ghosts.bytes (below_of b))) (sym line) others_kept;
         counts = refl;
       }
 
-  ran : (events : List Event) (x z t v : Option (List ℕ)) → (served : Served ghosts (shape_of a) events x z t v a b) → first + length (input_of events) ≤ 2 ^ 40
-      → Ran (ghosts.counts rack) (ghosts.counts (below_of b)) (ghosts.bytes rack) (ghosts.bytes (below_of b)) (ghosts.tells (below_of b)) (MakeArray shape ∷ events) (Done ∷ served.replies)
-  ran events x z t v served budget = ran_of events served.replies (weaker_runs ghosts none both law a b events served.replies served.runs) served.in_place budget
-
-  pub array_replayed : (x z t v : Option (List ℕ)) → AllAnswered ghosts (shape_of a) first x z t v a b → ArrayReplayed (ghosts.counts rack) (ghosts.counts (below_of b)) (ghosts.bytes rack) (ghosts.bytes (below_of b)) (ghosts.tells (below_of b)) shape x z t v
-  array_replayed x z t v all = record {
-    events = all.served.events;
-    replies = all.served.served.replies;
-    ran = ran all.served.events x z all.middle v all.served.served all.served.budget;
-    input = all.served.end;
-    output = took_first all.served.served.replies t all.middle v all.ok all.served.served.output;
-  }
-
-  pub cut_input : (number : ℕ) (kind : Kind) (x z t m : Option (List ℕ)) → (s : ServedTo ghosts (shape_of a) first 2 number kind x z t m a b) → Told (λ p q. (text : List ℕ) × IsCutAt shape s.events kind p text) x z
-  cut_input number kind x z t m s =
-      let room : 2 ^ 40 - (first + length (input_of s.events)) ≡ 2 ^ 40 - length (input_of (MakeArray shape ∷ s.events)) = ap (λ (n : ℕ). 2 ^ 40 - n) (omega (arith, length-append (line_of (MakeArray shape)) (input_of s.events))) in
-      Told-then _ _ (λ p q. (text : List ℕ) × IsCutAt shape s.events kind p text) (λ p q r f refused. (
-        q,
-        record {
-          lines = f.lines;
-          refused = subst (λ (n : ℕ). IsRefused (Some shape) n q kind) room (subst (λ (h : Shape). IsRefused (Some h) (2 ^ 40 - (first + length (input_of s.events))) q kind) same_shape refused);
-          only = λ others placed made. f.only others (subst (λ (h : Shape). All (IsInPlace (Some h)) others) (sym same_shape) placed) made;
-        },
-      )) x s.middle z s.served.input s.refused
-
-  pub array_stopped : (x z t v : Option (List ℕ)) → AnsweredTo ghosts (shape_of a) first x z t v a b → ArrayStopped (ghosts.counts rack) (ghosts.counts (below_of b)) (ghosts.bytes rack) (ghosts.bytes (below_of b)) (ghosts.tells (below_of b)) shape x z t v
-  array_stopped x z t v to =
-      let s = to.served in
-      record {
-        events = s.events;
-        replies = s.served.replies;
-        kind = to.kind;
-        ran = ran s.events x s.middle to.middle to.before s.served s.budget;
-        input = cut_input to.number to.kind x z to.middle to.before s;
-        output = took_last (output_of (Done ∷ s.served.replies)) (refusal (length s.events + 2) to.kind) t to.before v
-            (took_first s.served.replies t to.middle to.before to.ok s.served.output)
-            (subst (λ (n : ℕ). Told (Took (refusal n to.kind)) to.before v) s.count to.refused);
-      }
-
-module _ (before now : Counts) (images bytes : ℕ → Option (List ℕ)) (tells : ℕ → Type 0) (shape : Shape) (well : IsShape shape) where
-  pub replayed : (x y z t v : Option (List ℕ)) → Told (Begins None (MakeArray shape)) x y → ArrayReplayed before now images bytes tells shape y z t v → Replayed before now images bytes tells x z t v
-  replayed x y z t v line rest = record {
-    events = MakeArray shape ∷ rest.events;
-    replies = Done ∷ rest.replies;
-    some = λ e. cc e;
-    ran = rest.ran;
-    input = Told-then _ _ (λ p r. (p ≡ input_of (MakeArray shape ∷ rest.events)) × (r ≡ [])) (λ p q r f s. (f.line ∙ ap (λ (l : List ℕ). line_of (MakeArray shape) ++ l) s.0, s.1)) x y z line rest.input;
-    output = rest.output;
-  }
-
-  -- no event of an input stands where it is cut
-  past : (events : List Event) (kind : Kind) (text b : List ℕ) → IsCutAt shape events kind b text → (es more : List Event) → All (IsInPlace (Some shape)) es → es ≡ events ++ more → text ≡ input_of more
-      → length (line_of (MakeArray shape)) + length (input_of es) ≤ 2 ^ 40 → ⊥
-  past events kind text b cut es [] placed split made budget = cut.refused.some made
-  past events kind text b cut es (m ∷ ms) placed split made budget =
-      let here : IsInPlace (Some shape) m = All-head (IsInPlace (Some shape)) m ms (All-right (IsInPlace (Some shape)) events (m ∷ ms) (subst (λ (l : List Event). All (IsInPlace (Some shape)) l) split placed)) in
-      let over = cut.refused.none m (input_of ms) here made in
-      let size : length (input_of es) ≡ length (input_of events ++ input_of (m ∷ ms)) = ap (λ (l : List Event). length (input_of l)) split ∙ ap length (flat_map-append line_of events (m ∷ ms)) in
-      absurd (omega (arith, size, over, budget, length-append (input_of events) (input_of (m ∷ ms)), length-append (line_of m) (input_of ms), length-append (line_of (MakeArray shape)) (input_of events)))
-
-  -- lines of a whole input can't be cut there
-  no_input : (events : List Event) (kind : Kind) (a b text : List ℕ) → Begins None (MakeArray shape) a b → IsCutAt shape events kind b text → IsNoInput a
-  no_input events kind a b text line cut [] input is = absurd (input.some refl)
-  no_input events kind a b text line cut (MakeArray s ∷ es) input is =
-      let same : MakeArray s ≡ MakeArray shape = line.only (MakeArray s) (input_of es) input.in_place.0 is in
-      let shapes : s ≡ shape = cc same in
-      let rest : b ≡ input_of es = append_cancel_left (line_of (MakeArray shape)) b (input_of es) (sym line.line ∙ is ∙ ap (λ (e : Event). line_of e ++ input_of es) same) in
-      let placed : All (IsInPlace (Some shape)) es = subst (λ (h : Shape). All (IsInPlace (Some h)) es) shapes input.in_place.1 in
-      let had = cut.only es placed rest in
-      let budget : length (line_of (MakeArray shape)) + length (input_of es) ≤ 2 ^ 40 = subst (λ (h : Shape). length (line_of (MakeArray h)) + length (input_of es) ≤ 2 ^ 40) shapes (let e = length-append (line_of (MakeArray s)) (input_of es) in let h = input.budget in omega arith) in
-      past events kind text b cut es had.0 placed had.1 had.2 budget
-  no_input events kind a b text line cut (event ∷ es) input is = absurd input.in_place
-
-  -- where the text behind the first line is cut, the whole is
-  pub stops_text : (events : List Event) (kind : Kind) (x y z : Option (List ℕ)) → Told (Begins None (MakeArray shape)) x y → Told (λ p q. (text : List ℕ) × IsCutAt shape events kind p text) y z
-      → Told (λ p q. (text : List ℕ) × (p ≡ input_of (MakeArray shape ∷ events) ++ text) × StopsAt (MakeArray shape ∷ events) kind text × IsNoInput p) x z
-  stops_text events kind x y z line cut = Told-then _ _ (λ p r. (text : List ℕ) × (p ≡ input_of (MakeArray shape ∷ events) ++ text) × StopsAt (MakeArray shape ∷ events) kind text × IsNoInput p) (λ p q r f s. (
-    s.0,
-    f.line ∙ ap (λ (l : List ℕ). line_of (MakeArray shape) ++ l) s.1.lines ∙ sym (append_assoc (line_of (MakeArray shape)) (input_of events) s.0),
-    record { by_kind = s.1.refused.by_kind; some = λ e. absurd (s.1.refused.some e); none = s.1.refused.none },
-    no_input events kind p q s.0 f s.1,
-  )) x y z line cut
-
-  pub stopped : (x y z t v : Option (List ℕ)) → Told (Begins None (MakeArray shape)) x y → ArrayStopped before now images bytes tells shape y z t v → Stopped before now images bytes tells x z t v
-  stopped x y z t v line rest = record {
-    events = MakeArray shape ∷ rest.events;
-    replies = Done ∷ rest.replies;
-    kind = rest.kind;
-    ran = rest.ran;
-    input = stops_text rest.events rest.kind x y z line rest.input;
-    output = subst (λ (n : ℕ). Told (Took (output_of (Done ∷ rest.replies) ++ refusal n rest.kind)) t v) (omega arith) rest.output;
-  }
+  pub meant : Meant ghosts (Ran (ghosts.counts rack) (ghosts.counts (below_of b)) (ghosts.bytes rack) (ghosts.bytes (below_of b)) (ghosts.tells (below_of b))) (MakeArray shape) shape first a b
+  meant = record { size = is; shape_is = blank.shape_is; makes = λ events. refl; runs = ran_of }
 
 unmade : Counts → Moment
 unmade now = record {
@@ -196,11 +242,10 @@ pub record IsNoFirst (kind : Kind) (text : List ℕ) : Type 0 where
 
 first_no_input : (kind : Kind) (text : List ℕ) → IsNoFirst kind text → IsNoInput text
 first_no_input kind text first [] input is = input.some refl
-first_no_input kind text first (MakeArray s ∷ es) input is =
-    let over = first.none (MakeArray s) (input_of es) input.in_place.0 is in
+first_no_input kind text first (event ∷ es) input is =
+    let over = first.none event (input_of es) (first_in_place event es input.in_place).0 is in
     let budget = input.budget in
-    absurd (omega (arith, over, budget, length-append (line_of (MakeArray s)) (input_of es)))
-first_no_input kind text first (event ∷ es) input is = input.in_place
+    absurd (omega (arith, over, budget, length-append (line_of event) (input_of es)))
 
 first_stops : (kind : Kind) (text : List ℕ) → IsNoFirst kind text → StopsAt [] kind text
 first_stops kind text first = record { by_kind = first.by_kind; some = λ e. refl; none = first.none }
@@ -281,32 +326,32 @@ rest_ended P unread x None told = tt
 rest_ended P unread None (Some b) told = absurd told
 rest_ended P unread (Some a) (Some b) told = (told.0, none_left unread b told.1)
 
-module _ (before now : Counts) (images bytes : ℕ → Option (List ℕ)) (tells : ℕ → Type 0) (unread kept : List ℕ) (fresh : unread ≡ []) (left rest taken given : Option (List ℕ)) where
-  pub replay_done : (shape : Shape) (y : Option (List ℕ)) → IsShape shape → Told (Begins None (MakeArray shape)) (option_map (λ more. unread ++ more) left) y
-      → ArrayReplayed before now images bytes tells shape y (option_map (λ more. kept ++ more) rest) taken given → Replayed before now images bytes tells left rest taken given
-  replay_done shape y well line all =
-      let whole = replayed before now images bytes tells shape well left y (option_map (λ more. kept ++ more) rest) taken given (fresh_told _ unread left y fresh line) all in
-      record {
-        events = whole.events;
-        replies = whole.replies;
-        some = whole.some;
-        ran = whole.ran;
-        input = rest_ended (λ l. l ≡ input_of whole.events) kept left rest whole.input;
-        output = whole.output;
-      }
+module _ (unread kept : List ℕ) (fresh : unread ≡ []) (left rest taken given : Option (List ℕ)) where
+  module _ (Means : List Event → List Reply → Type 0) (make : Event) (shape : Shape) (makes : (events : List Event) → shape_after (make ∷ events) ≡ Some shape) (y : Option (List ℕ))
+      (line : Told (Begins None make) (option_map (λ more. unread ++ more) left) y) where
+    pub replay_done : ArrayReplayed Means make y (option_map (λ more. kept ++ more) rest) taken given → ReplayedBy Means left rest taken given
+    replay_done all =
+        let whole = replayed Means make shape makes left y (option_map (λ more. kept ++ more) rest) taken given (fresh_told _ unread left y fresh line) all in
+        record {
+          events = whole.events;
+          replies = whole.replies;
+          some = whole.some;
+          ran = whole.ran;
+          input = rest_ended (λ l. l ≡ input_of whole.events) kept left rest whole.input;
+          output = whole.output;
+        }
 
-  pub replay_stopped : (shape : Shape) (y : Option (List ℕ)) → IsShape shape → Told (Begins None (MakeArray shape)) (option_map (λ more. unread ++ more) left) y
-      → ArrayStopped before now images bytes tells shape y (option_map (λ more. kept ++ more) rest) taken given → Stopped before now images bytes tells left rest taken given
-  replay_stopped shape y well line all =
-      let whole = stopped before now images bytes tells shape well left y (option_map (λ more. kept ++ more) rest) taken given (fresh_told _ unread left y fresh line) all in
-      record {
-        events = whole.events;
-        replies = whole.replies;
-        kind = whole.kind;
-        ran = whole.ran;
-        input = rest_told (λ l. (text : List ℕ) × (l ≡ input_of whole.events ++ text) × StopsAt whole.events whole.kind text × IsNoInput l) kept left rest whole.input;
-        output = whole.output;
-      }
+    pub replay_stopped : ArrayStopped Means make shape y (option_map (λ more. kept ++ more) rest) taken given → StoppedBy Means left rest taken given
+    replay_stopped all =
+        let whole = stopped Means make shape makes left y (option_map (λ more. kept ++ more) rest) taken given (fresh_told _ unread left y fresh line) all in
+        record {
+          events = whole.events;
+          replies = whole.replies;
+          kind = whole.kind;
+          ran = whole.ran;
+          input = rest_told (λ l. (text : List ℕ) × (l ≡ input_of whole.events ++ text) × StopsAt whole.events whole.kind text × IsNoInput l) kept left rest whole.input;
+          output = whole.output;
+        }
 
   first_refused : (kind : Kind) → Told (λ b a. IsRefused None (2 ^ 40) b kind) (option_map (λ more. unread ++ more) left) (option_map (λ more. kept ++ more) rest) → Told (λ b a. IsNoFirst kind b) left rest
   first_refused kind refused = rest_told (IsNoFirst kind) kept left rest (fresh_told (λ b a. IsNoFirst kind b) unread left _ fresh (none_first kind _ _ refused))
@@ -314,17 +359,18 @@ module _ (before now : Counts) (images bytes : ℕ → Option (List ℕ)) (tells
   first_empty : Told (λ b a. (b ≡ []) × (a ≡ [])) (option_map (λ more. unread ++ more) left) (option_map (λ more. kept ++ more) rest) → Told (λ b a. IsNoFirst Cut b) left rest
   first_empty empty = rest_told (IsNoFirst Cut) kept left rest (fresh_told (λ b a. IsNoFirst Cut b) unread left _ fresh (none_at_all _ _ empty))
 
-  pub replay_refused : (kind : Kind) → Told (λ b a. IsRefused None (2 ^ 40) b kind) (option_map (λ more. unread ++ more) left) (option_map (λ more. kept ++ more) rest) → Told (Took (refusal 1 kind)) taken given → Stopped before before bytes bytes tells left rest taken given
-  replay_refused kind refused output = stopped_first before bytes tells kind left rest taken given (first_refused kind refused) output
+  module _ (before : Counts) (bytes : ℕ → Option (List ℕ)) (tells : ℕ → Type 0) where
+    pub replay_refused : (kind : Kind) → Told (λ b a. IsRefused None (2 ^ 40) b kind) (option_map (λ more. unread ++ more) left) (option_map (λ more. kept ++ more) rest) → Told (Took (refusal 1 kind)) taken given → Stopped before before bytes bytes tells left rest taken given
+    replay_refused kind refused output = stopped_first before bytes tells kind left rest taken given (first_refused kind refused) output
 
-  pub replay_empty : Told (λ b a. (b ≡ []) × (a ≡ [])) (option_map (λ more. unread ++ more) left) (option_map (λ more. kept ++ more) rest) → Told (Took (refusal 1 Cut)) taken given → Stopped before before bytes bytes tells left rest taken given
-  replay_empty empty output = stopped_first before bytes tells Cut left rest taken given (first_empty empty) output
+    pub replay_empty : Told (λ b a. (b ≡ []) × (a ≡ [])) (option_map (λ more. unread ++ more) left) (option_map (λ more. kept ++ more) rest) → Told (Took (refusal 1 Cut)) taken given → Stopped before before bytes bytes tells left rest taken given
+    replay_empty empty output = stopped_first before bytes tells Cut left rest taken given (first_empty empty) output
 
-  pub refused_part : (kind : Kind) → Told (λ b a. IsRefused None (2 ^ 40) b kind) (option_map (λ more. unread ++ more) left) (option_map (λ more. kept ++ more) rest) → Told (TookPart (refusal 1 kind)) taken given → IsCut before before bytes bytes tells left rest taken given
-  refused_part kind refused output = inr (cut_first before bytes tells kind left rest taken given (first_refused kind refused) output)
+    pub refused_part : (kind : Kind) → Told (λ b a. IsRefused None (2 ^ 40) b kind) (option_map (λ more. unread ++ more) left) (option_map (λ more. kept ++ more) rest) → Told (TookPart (refusal 1 kind)) taken given → IsCut before before bytes bytes tells left rest taken given
+    refused_part kind refused output = inr (cut_first before bytes tells kind left rest taken given (first_refused kind refused) output)
 
-  pub empty_part : Told (λ b a. (b ≡ []) × (a ≡ [])) (option_map (λ more. unread ++ more) left) (option_map (λ more. kept ++ more) rest) → Told (TookPart (refusal 1 Cut)) taken given → IsCut before before bytes bytes tells left rest taken given
-  empty_part empty output = inr (cut_first before bytes tells Cut left rest taken given (first_empty empty) output)
+    pub empty_part : Told (λ b a. (b ≡ []) × (a ≡ [])) (option_map (λ more. unread ++ more) left) (option_map (λ more. kept ++ more) rest) → Told (TookPart (refusal 1 Cut)) taken given → IsCut before before bytes bytes tells left rest taken given
+    empty_part empty output = inr (cut_first before bytes tells Cut left rest taken given (first_empty empty) output)
 
 pub IfOk-map : {T E : Type 0} (result : Result T E) (P Q : T → Type 0) → ((x : T) → P x → Q x) → IfOk result P → IfOk result Q
 IfOk-map (Ok x) P Q h p = h x p

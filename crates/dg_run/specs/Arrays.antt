@@ -1,10 +1,8 @@
 -- A replay behind its first line.
 use Rattle.std.specs.Prelude.{◌≡◌, ◌+◌, ◌-◌, ◌^◌, ◌++◌, ◌∷◌, ◌⊎◌, [], ℕ, List, length, Option, Some, All}
 use Rattle.dg_io.specs.declared.outside.Rack.{Ghosts}
-use Rattle.dg_model.specs.States.{Counts}
 use Rattle.dg_model.specs.declared.shapes.Shape.{Shape}
 use Rattle.dg_model.specs.declared.events.Event.{Event}
-use Rattle.dg_model.specs.declared.events.Event.TheVariants.{Array as MakeArray}
 use Rattle.dg_model.specs.declared.replies.Reply.{Reply}
 use Rattle.dg_model.specs.declared.replies.Reply.TheVariants.{Done}
 use Rattle.dg_io.specs.Told.{Told, Took, TookPart}
@@ -17,7 +15,6 @@ use Rattle.dg_io.specs.Told.{AreAny}
 use Rattle.dg_run.specs.Endings.{LinesCut, LinesRanOut}
 use Rattle.dg_run.specs.Events.{IsRefused}
 use Rattle.dg_run.specs.Lines.{AllServed, ServedTo}
-use Rattle.dg_run.specs.Replays.{Ran}
 use Rattle.dg_run.specs.declared.top.Status.{Status}
 use Rattle.dg_run.specs.declared.top.Status.TheVariants.{Done as status_done, Usage, BadLine, ReadFault, WriteFault, NoMemory, NoState, Unclean, Refused}
 
@@ -70,28 +67,26 @@ IsOfReplay NoState = ⊥
 IsOfReplay Unclean = ⊥
 IsOfReplay Refused = ⊥
 
--- The array of this shape was made by a first line, and all lines behind it were served.
-pub record ArrayReplayed (before now : Counts) (images bytes : ℕ → Option (List ℕ)) (tells : ℕ → Type 0) (shape : Shape)
-    (left rest taken given : Option (List ℕ)) : Type 0 where
+-- An array was made by a first line, and all lines behind it were served. `Means` is what a run with some events and replies means.
+pub record ArrayReplayed (Means : List Event → List Reply → Type 0) (make : Event) (left rest taken given : Option (List ℕ)) : Type 0 where
   pub events : List Event
   pub replies : List Reply
-  pub ran : Ran before now images bytes tells (MakeArray shape ∷ events) (Done ∷ replies)
+  pub ran : Means (make ∷ events) (Done ∷ replies)
   pub input : Told (λ b a. (b ≡ input_of events) × (a ≡ [])) left rest
   pub output : Told (Took (output_of (Done ∷ replies))) taken given
 
 -- The text behind the lines of these events is refused by this kind, and any lines of events in their places that make up the whole
 -- begin with them.
-pub record IsCutAt (shape : Shape) (events : List Event) (kind : Kind) (whole text : List ℕ) : Type 0 where
+pub record IsCutAt (make : Event) (shape : Shape) (events : List Event) (kind : Kind) (whole text : List ℕ) : Type 0 where
   pub lines : whole ≡ input_of events ++ text
-  pub refused : IsRefused (Some shape) (2 ^ 40 - length (input_of (MakeArray shape ∷ events))) text kind
+  pub refused : IsRefused (Some shape) (2 ^ 40 - length (input_of (make ∷ events))) text kind
   pub only : (others : List Event) → All (IsInPlace (Some shape)) others → whole ≡ input_of others → (more : List Event) × (others ≡ events ++ more) × (text ≡ input_of more)
 
 -- the same up to a line that is refused
-pub record ArrayStopped (before now : Counts) (images bytes : ℕ → Option (List ℕ)) (tells : ℕ → Type 0) (shape : Shape)
-    (left rest taken given : Option (List ℕ)) : Type 0 where
+pub record ArrayStopped (Means : List Event → List Reply → Type 0) (make : Event) (shape : Shape) (left rest taken given : Option (List ℕ)) : Type 0 where
   pub events : List Event
   pub replies : List Reply
   pub kind : Kind
-  pub ran : Ran before now images bytes tells (MakeArray shape ∷ events) (Done ∷ replies)
-  pub input : Told (λ b a. (text : List ℕ) × IsCutAt shape events kind b text) left rest
+  pub ran : Means (make ∷ events) (Done ∷ replies)
+  pub input : Told (λ b a. (text : List ℕ) × IsCutAt make shape events kind b text) left rest
   pub output : Told (Took (output_of (Done ∷ replies) ++ refusal (length events + 2) kind)) taken given

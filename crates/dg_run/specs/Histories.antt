@@ -4,7 +4,7 @@ use Rattle.dg_io.specs.Makes.{Makes}
 use Rattle.dg_io.specs.Told.{StillTold, Told, Took, TookPart}
 use Rattle.dg_io.specs.declared.outside.Rack.{Ghosts}
 use Rattle.dg_model.specs.Lives.{all_live}
-use Rattle.dg_model.specs.Moments.{History, Makes as MakesArray, Moment}
+use Rattle.dg_model.specs.Moments.{Makes as MakesArray, Moment}
 use Rattle.dg_model.specs.Moments.Kind.{plain}
 use Rattle.dg_model.specs.States.{State}
 use Rattle.dg_model.specs.declared.events.Event.{Event}
@@ -15,6 +15,7 @@ use Rattle.dg_regroup.specs.LivePassing.{own_calls, own_writes}
 use Rattle.dg_regroup.specs.LiveGhosts.{live}
 use Rattle.dg_regroup.specs.LiveRacks.{live_in, rack_in}
 use Rattle.dg_regroup.specs.declared.live_racks.LiveRack.{LiveRack}
+use Rattle.dg_run.specs.Courses.{Course, Standing}
 use Rattle.dg_run.specs.Steps.{BeginsLines, IsSound, NotesFile, StandsIn, rack_of, shape_of}
 use Rattle.dg_run.specs.declared.arrays.Array.{Array}
 use Rattle.dg_store.specs.Leaves.{IsCallBelow}
@@ -67,9 +68,13 @@ pub record Continues {R : Type 0} (rack : Ghosts R) (old new : Array (LiveRack R
 
 -- ---- moments
 
--- the state, and the counts of the rack below
-abbrev pub moment_of : {R : Type 0} → Ghosts R → Array (LiveRack R) → State → Moment
-moment_of rack array state = record { state = state; beneath = record { counts = rack.counts (below_of array); out = λ d. false } }
+-- a state of it, and the rack below
+abbrev pub standing_of : {R : Type 0} → Array (LiveRack R) → State → Standing R
+standing_of array state = record { state = state; rack = below_of array }
+
+-- Of an array of mirrored pairs the rack itself is what stands beneath: its counts, and no disk is out.
+abbrev pub on_pairs : {R : Type 0} → Ghosts R → Standing R → Moment
+on_pairs rack now = record { state = now.state; beneath = record { counts = rack.counts now.rack; out = λ d. false } }
 
 -- From a state of an array these events led to another one, in which it stands now, with these replies. That it stood for the first state's blocks may
 -- rest on something, and that it stands for the last one's on that and on what members told that are no more in use.
@@ -79,7 +84,7 @@ pub record Leads {R : Type 0} (rack : Ghosts R) (Stands : Type 0 → State → T
   pub next : State
   pub stands : Stands (WasHeld (live rack) after) next
   pub known : TellsLine rack new → WasHeld (live rack) origin → WasHeld (live rack) after
-  pub history : History (KnownBy (WasHeld (live rack) origin) rack new) plain (moment_of rack old state) events replies (moment_of rack new next)
+  pub course : Course rack (KnownBy (WasHeld (live rack) origin) rack new) (standing_of old state) events replies (standing_of new next)
 
 -- Whichever state the array was in, these events led on from it.
 abbrev pub RunsTo : {R : Type 0} → Ghosts R → Array (LiveRack R) → List Event → List Reply → Array (LiveRack R) → Type 0
@@ -94,8 +99,8 @@ VolumeRunsTo {R = R} rack old events replies new = (origin : Origin (LiveRack R)
 -- the same, but nothing is said of what the array stands for now
 abbrev pub RunsBefore : {R : Type 0} → Ghosts R → Array (LiveRack R) → List Event → List Reply → Array (LiveRack R) → Type 0
 RunsBefore {R = R} rack old events replies now = (origin : Origin (LiveRack R)) (state : State) → StandsIn (live rack) (WasHeld (live rack) origin) old state
-    → (next : Moment) × (next.state.boundaries ≡ boundaries_of now)
-    × History (KnownBy (WasHeld (live rack) origin) rack now) plain (moment_of rack old state) events replies next
+    → (next : Standing R) × (next.state.boundaries ≡ boundaries_of now)
+    × Course rack (KnownBy (WasHeld (live rack) origin) rack now) (standing_of old state) events replies next
 
 -- ---- answers
 
@@ -141,5 +146,5 @@ pub record IsBlankReady {R : Type 0} (rack : Ghosts R) (shape : Shape) (before :
   pub made : Makes rack (IsCallBelow shape.b) before (below_of array)
   pub tells : StillTold (rack.bytes before) (rack.bytes (below_of array))
   pub state : State
-  pub makes : MakesArray plain (MakeArray shape) shape (rack.counts before) (moment_of rack array state)
+  pub makes : MakesArray plain (MakeArray shape) shape (rack.counts before) (on_pairs rack (standing_of array state))
   pub stands : StandsIn (live rack) (WasHeld (live rack) nothing) array state

@@ -2,6 +2,7 @@ pub mod Arrays
 pub mod Bytes
 pub mod Calls
 pub mod Completes
+pub mod Courses
 pub mod Endings
 pub mod Ends
 pub mod Events

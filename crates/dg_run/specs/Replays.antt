@@ -52,12 +52,14 @@ pub record Ran (before now : Counts) (images bytes : ℕ → Option (List ℕ)) 
   pub others : OthersKept final.state.boundaries before now images bytes
   pub counts : final.beneath.counts ≡ now
 
+-- ---- what came of an input, by what a run with these events and replies means
+
 -- the input was read to its end, and is the lines of these events; the output is the text of their replies
-pub record Replayed (before now : Counts) (images bytes : ℕ → Option (List ℕ)) (tells : ℕ → Type 0) (left rest taken given : Option (List ℕ)) : Type 0 where
+pub record ReplayedBy (Means : List Event → List Reply → Type 0) (left rest taken given : Option (List ℕ)) : Type 0 where
   pub events : List Event
   pub replies : List Reply
   pub some : events ≡ [] → ⊥
-  pub ran : Ran before now images bytes tells events replies
+  pub ran : Means events replies
   pub input : Told (λ b a. (b ≡ input_of events) × (a ≡ [])) left rest
   pub output : Told (Took (output_of replies)) taken given
 
@@ -81,47 +83,71 @@ IsNoInput text = (events : List Event) → IsInput events → text ≡ input_of 
 
 -- the input is the lines of these events and then a line that is refused; the output is the text of their replies and
 -- then the refusal with that line's number and kind
-pub record Stopped (before now : Counts) (images bytes : ℕ → Option (List ℕ)) (tells : ℕ → Type 0) (left rest taken given : Option (List ℕ)) : Type 0 where
+pub record StoppedBy (Means : List Event → List Reply → Type 0) (left rest taken given : Option (List ℕ)) : Type 0 where
   pub events : List Event
   pub replies : List Reply
   pub kind : BadLine
-  pub ran : Ran before now images bytes tells events replies
+  pub ran : Means events replies
   pub input : Told (λ b a. (text : List ℕ) × (b ≡ input_of events ++ text) × StopsAt events kind text × IsNoInput b) left rest
   pub output : Told (Took (output_of replies ++ refusal (length events + 1) kind)) taken given
 
 -- The source failed: the lines that it gave whole are those of these events, and the output is the text of their replies.
-pub record BrokeOff (before now : Counts) (images bytes : ℕ → Option (List ℕ)) (tells : ℕ → Type 0) (left rest taken given : Option (List ℕ)) : Type 0 where
+pub record BrokeOffBy (Means : List Event → List Reply → Type 0) (left rest taken given : Option (List ℕ)) : Type 0 where
   pub events : List Event
   pub replies : List Reply
-  pub ran : Ran before now images bytes tells events replies
+  pub ran : Means events replies
   pub input : Told (GaveLines (input_of events)) left rest
   pub output : Told (Took (output_of replies)) taken given
 
 -- The sink failed at a reply: the input begins with the lines of these events, all of which were done. The output is the text of
 -- the replies before, and a part of the last one.
-pub record CutReply (before now : Counts) (images bytes : ℕ → Option (List ℕ)) (tells : ℕ → Type 0) (left rest taken given : Option (List ℕ)) : Type 0 where
+pub record CutReplyBy (Means : List Event → List Reply → Type 0) (left rest taken given : Option (List ℕ)) : Type 0 where
   pub events : List Event
   pub replies : List Reply
   pub last : Reply
-  pub ran : Ran before now images bytes tells events (replies ++ last ∷ [])
+  pub ran : Means events (replies ++ last ∷ [])
   pub input : Told (StartsWith (input_of events)) left rest
   pub output : Told (TookUpTo (output_of replies) (reply_line last)) taken given
 
 -- The sink failed at the refusal of a line: the input is the lines of these events and then a line that is refused. The output is the
 -- text of their replies, and a part of the refusal.
-pub record CutRefusal (before now : Counts) (images bytes : ℕ → Option (List ℕ)) (tells : ℕ → Type 0) (left rest taken given : Option (List ℕ)) : Type 0 where
+pub record CutRefusalBy (Means : List Event → List Reply → Type 0) (left rest taken given : Option (List ℕ)) : Type 0 where
   pub events : List Event
   pub replies : List Reply
   pub kind : BadLine
-  pub ran : Ran before now images bytes tells events replies
+  pub ran : Means events replies
   pub input : Told (λ b a. (text : List ℕ) × (b ≡ input_of events ++ text) × StopsAt events kind text) left rest
   pub output : Told (TookUpTo (output_of replies) (refusal (length events + 1) kind)) taken given
 
 -- the sink failed at a reply, or at the refusal of a line
+abbrev pub IsCutBy : (List Event → List Reply → Type 0) → Option (List ℕ) → Option (List ℕ) → Option (List ℕ) → Option (List ℕ) → Type 0
+IsCutBy Means left rest taken given = CutReplyBy Means left rest taken given ⊎ CutRefusalBy Means left rest taken given
+
+-- ---- the same, where the run is that of an array from nothing
+
+abbrev pub Replayed : Counts → Counts → (ℕ → Option (List ℕ)) → (ℕ → Option (List ℕ)) → (ℕ → Type 0) → Option (List ℕ) → Option (List ℕ) → Option (List ℕ)
+    → Option (List ℕ) → Type 0
+Replayed before now images bytes tells left rest taken given = ReplayedBy (Ran before now images bytes tells) left rest taken given
+
+abbrev pub Stopped : Counts → Counts → (ℕ → Option (List ℕ)) → (ℕ → Option (List ℕ)) → (ℕ → Type 0) → Option (List ℕ) → Option (List ℕ) → Option (List ℕ)
+    → Option (List ℕ) → Type 0
+Stopped before now images bytes tells left rest taken given = StoppedBy (Ran before now images bytes tells) left rest taken given
+
+abbrev pub BrokeOff : Counts → Counts → (ℕ → Option (List ℕ)) → (ℕ → Option (List ℕ)) → (ℕ → Type 0) → Option (List ℕ) → Option (List ℕ) → Option (List ℕ)
+    → Option (List ℕ) → Type 0
+BrokeOff before now images bytes tells left rest taken given = BrokeOffBy (Ran before now images bytes tells) left rest taken given
+
+abbrev pub CutReply : Counts → Counts → (ℕ → Option (List ℕ)) → (ℕ → Option (List ℕ)) → (ℕ → Type 0) → Option (List ℕ) → Option (List ℕ) → Option (List ℕ)
+    → Option (List ℕ) → Type 0
+CutReply before now images bytes tells left rest taken given = CutReplyBy (Ran before now images bytes tells) left rest taken given
+
+abbrev pub CutRefusal : Counts → Counts → (ℕ → Option (List ℕ)) → (ℕ → Option (List ℕ)) → (ℕ → Type 0) → Option (List ℕ) → Option (List ℕ) → Option (List ℕ)
+    → Option (List ℕ) → Type 0
+CutRefusal before now images bytes tells left rest taken given = CutRefusalBy (Ran before now images bytes tells) left rest taken given
+
 abbrev pub IsCut : Counts → Counts → (ℕ → Option (List ℕ)) → (ℕ → Option (List ℕ)) → (ℕ → Type 0) → Option (List ℕ) → Option (List ℕ) → Option (List ℕ)
     → Option (List ℕ) → Type 0
-IsCut before now images bytes tells left rest taken given =
-    CutReply before now images bytes tells left rest taken given ⊎ CutRefusal before now images bytes tells left rest taken given
+IsCut before now images bytes tells left rest taken given = IsCutBy (Ran before now images bytes tells) left rest taken given
 
 -- Memory was wanting for a line: the input begins with the lines of these events, and then with one that has no more bytes than the longest and than what
 -- is left of the budget; so that one is refused neither for its length nor for the input's end. The output is the text of the replies. Nothing is said of

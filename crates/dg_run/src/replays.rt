@@ -13,7 +13,7 @@ ghost use Rattle.dg_run.specs.Endings.{LinesBrokeOff};
 ghost use Rattle.dg_run.specs.Ends.{EndsReplay};
 ghost use Rattle.dg_run.specs.Events.{Begins};
 ghost use Rattle.dg_run.specs.Inputs.{ahead, BeginsWithLine};
-ghost use Rattle.dg_run.specs.Replays.{BrokeOff, IsCut, RanOut, Replayed, Stopped, WantsFirst};
+ghost use Rattle.dg_run.specs.Replays.{BrokeOff, IsCut, Ran, RanOut, Replayed, Stopped, WantsFirst};
 ghost use Rattle.dg_run.specs.Histories.{Continues, IsReady};
 ghost use Rattle.dg_run.specs.Steps.{shape_of};
 ghost use Rattle.dg_text.specs.Lines.{line_of, longest};
@@ -135,11 +135,11 @@ fn replay_array<S: Source, K: Sink, R: Rack + Drop>(
     requires budget { first ≤ 2 ^ 40 }
     ensures name { IfOk result (λ end. R.name end.rack ≡ R.name rack) }
     ensures done { IfOk result (λ end. end.status ≡ Status.Done
-        → ArrayReplayed (R.counts rack) (R.counts end.rack) (R.bytes rack) (R.bytes end.rack) (R.tells end.rack) shape (ahead input.old (S.left source.old))
-        (ahead input.new (S.left source.new)) (K.taken sink.old) (K.taken sink.new)) }
+        → ArrayReplayed (Ran (R.counts rack) (R.counts end.rack) (R.bytes rack) (R.bytes end.rack) (R.tells end.rack)) (Event.Array shape)
+        (ahead input.old (S.left source.old)) (ahead input.new (S.left source.new)) (K.taken sink.old) (K.taken sink.new)) }
     ensures bad_line { IfOk result (λ end. end.status ≡ Status.BadLine
-        → ArrayStopped (R.counts rack) (R.counts end.rack) (R.bytes rack) (R.bytes end.rack) (R.tells end.rack) shape (ahead input.old (S.left source.old))
-        (ahead input.new (S.left source.new)) (K.taken sink.old) (K.taken sink.new)) }
+        → ArrayStopped (Ran (R.counts rack) (R.counts end.rack) (R.bytes rack) (R.bytes end.rack) (R.tells end.rack)) (Event.Array shape) shape
+        (ahead input.old (S.left source.old)) (ahead input.new (S.left source.new)) (K.taken sink.old) (K.taken sink.new)) }
     ensures broken { IfOk result (λ end. end.status ≡ Status.ReadFault → (text : Option (List ℕ))
         → Told (Begins None (Event.Array shape)) text (ahead input.old (S.left source.old))
         → BrokeOff (R.counts rack) (R.counts end.rack) (R.bytes rack) (R.bytes end.rack) (R.tells end.rack) text (S.left source.new) (K.taken sink.old)

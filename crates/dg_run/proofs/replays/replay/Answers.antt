@@ -1,12 +1,13 @@
 use Rattle.std.proofs.Common.{◌≡◌, ◌∙◌, ◌^◌, ℕ, List, ap, refl, subst}
 use Rattle.std.specs.Prelude.{Err, None, Option}
 use Rattle.dg_model.specs.declared.events.Event.{Event}
+use Rattle.dg_model.specs.declared.events.Event.TheVariants.{Array as MakeArray}
 use Rattle.dg_io.specs.Told.{Told}
 use Rattle.dg_text.specs.Lines.{IsInPlace, longest}
 use Rattle.dg_run.specs.Events.{Begins}
 use Rattle.dg_run.specs.declared.events.Fault.TheVariants.{Read as FaultRead, NoMemory as FaultNoMemory}
 use Rattle.dg_run.specs.Inputs.{unread, ahead}
-use Rattle.dg_run.specs.Replays.{BrokeOff, IsCut, RanOut}
+use Rattle.dg_run.specs.Replays.{BrokeOff, IsCut, Ran, RanOut}
 use Rattle.dg_run.proofs.Breaks.{awaits_left}
 use Rattle.dg_run.proofs.Broken.{broke_off_first, fresh_is, ran_out_next, wants_array}
 use Rattle.dg_run.proofs.Whole.{IfOk-map, empty_part, refused_part, replay_done, replay_empty, replay_refused, replay_stopped}
@@ -16,31 +17,33 @@ pub returns-in-Ok-Event-Array-default-clause-done : goal.returns-in-Ok-Event-Arr
 returns-in-Ok-Event-Array-default-clause-done g c =
     let arm = c.in-Ok-Event-Array-default in
     let e = rw arm.field-0-is at arm.ensures in
-    let well = subst (λ (event : Event). IsInPlace None event) arm.field-0-0-is e.is.0 in
     let line = subst (λ (event : Event). Told (Begins None event) (ahead c.in_ok-input.input (g.S.Source.left c.args.source.now)) (ahead c.take_event.new.input (g.S.Source.left c.take_event.new.source))) arm.field-0-0-is e.took in
-    IfOk-map c.replay_array.result _ _ (λ end h is. replay_done (g.R.Rack.counts c.args.rack) (g.R.Rack.counts end.rack) (g.R.Rack.bytes c.args.rack) (g.R.Rack.bytes end.rack) (g.R.Rack.tells end.rack) (unread c.in_ok-input.input) (unread c.replay_array.new.input) c.in_ok-input.ensures
-    (g.S.Source.left c.args.source.now) (g.S.Source.left c.replay_array.new.source) (g.K.Sink.taken c.args.sink.now) (g.K.Sink.taken c.replay_array.new.sink) arm.shape _ well line (h is)) c.replay_array.ensures.done
+    IfOk-map c.replay_array.result _ _ (λ end h is. replay_done (unread c.in_ok-input.input) (unread c.replay_array.new.input) c.in_ok-input.ensures
+    (g.S.Source.left c.args.source.now) (g.S.Source.left c.replay_array.new.source) (g.K.Sink.taken c.args.sink.now) (g.K.Sink.taken c.replay_array.new.sink)
+    (Ran (g.R.Rack.counts c.args.rack) (g.R.Rack.counts end.rack) (g.R.Rack.bytes c.args.rack) (g.R.Rack.bytes end.rack) (g.R.Rack.tells end.rack)) (MakeArray arm.shape) arm.shape (λ events. refl) _ line (h is)) c.replay_array.ensures.done
 
 pub returns-in-Ok-Event-Array-default-clause-bad_line : goal.returns-in-Ok-Event-Array-default-clause-bad_line
 returns-in-Ok-Event-Array-default-clause-bad_line g c =
     let arm = c.in-Ok-Event-Array-default in
     let e = rw arm.field-0-is at arm.ensures in
-    let well = subst (λ (event : Event). IsInPlace None event) arm.field-0-0-is e.is.0 in
     let line = subst (λ (event : Event). Told (Begins None event) (ahead c.in_ok-input.input (g.S.Source.left c.args.source.now)) (ahead c.take_event.new.input (g.S.Source.left c.take_event.new.source))) arm.field-0-0-is e.took in
-    IfOk-map c.replay_array.result _ _ (λ end h is. replay_stopped (g.R.Rack.counts c.args.rack) (g.R.Rack.counts end.rack) (g.R.Rack.bytes c.args.rack) (g.R.Rack.bytes end.rack) (g.R.Rack.tells end.rack) (unread c.in_ok-input.input) (unread c.replay_array.new.input) c.in_ok-input.ensures
-    (g.S.Source.left c.args.source.now) (g.S.Source.left c.replay_array.new.source) (g.K.Sink.taken c.args.sink.now) (g.K.Sink.taken c.replay_array.new.sink) arm.shape _ well line (h is)) c.replay_array.ensures.bad_line
+    IfOk-map c.replay_array.result _ _ (λ end h is. replay_stopped (unread c.in_ok-input.input) (unread c.replay_array.new.input) c.in_ok-input.ensures
+    (g.S.Source.left c.args.source.now) (g.S.Source.left c.replay_array.new.source) (g.K.Sink.taken c.args.sink.now) (g.K.Sink.taken c.replay_array.new.sink)
+    (Ran (g.R.Rack.counts c.args.rack) (g.R.Rack.counts end.rack) (g.R.Rack.bytes c.args.rack) (g.R.Rack.bytes end.rack) (g.R.Rack.tells end.rack)) (MakeArray arm.shape) arm.shape (λ events. refl) _ line (h is)) c.replay_array.ensures.bad_line
 
 pub returns-in-Ok-End-clause-bad_line : goal.returns-in-Ok-End-clause-bad_line
 returns-in-Ok-End-clause-bad_line g c is =
     let took = rw c.in-Ok-End.field-0-is at c.in-Ok-End.ensures.took in
-    replay_empty (g.R.Rack.counts c.args.rack) (g.R.Rack.counts c.args.rack) (g.R.Rack.bytes c.args.rack) (g.R.Rack.bytes c.args.rack) (g.R.Rack.tells c.args.rack) (unread c.in_ok-input.input) (unread c.take_event.new.input) c.in_ok-input.ensures
-    (g.S.Source.left c.args.source.now) (g.S.Source.left c.take_event.new.source) (g.K.Sink.taken c.args.sink.now) (g.K.Sink.taken c.refuse.new.sink) took (c.refuse.ensures.bad is)
+    replay_empty (unread c.in_ok-input.input) (unread c.take_event.new.input) c.in_ok-input.ensures
+    (g.S.Source.left c.args.source.now) (g.S.Source.left c.take_event.new.source) (g.K.Sink.taken c.args.sink.now) (g.K.Sink.taken c.refuse.new.sink)
+    (g.R.Rack.counts c.args.rack) (g.R.Rack.bytes c.args.rack) (g.R.Rack.tells c.args.rack) took (c.refuse.ensures.bad is)
 
 pub returns-in-Ok-Refused-clause-bad_line : goal.returns-in-Ok-Refused-clause-bad_line
 returns-in-Ok-Refused-clause-bad_line g c is =
     let took = rw c.in-Ok-Refused.field-0-is at c.in-Ok-Refused.ensures.took in
-    replay_refused (g.R.Rack.counts c.args.rack) (g.R.Rack.counts c.args.rack) (g.R.Rack.bytes c.args.rack) (g.R.Rack.bytes c.args.rack) (g.R.Rack.tells c.args.rack) (unread c.in_ok-input.input) (unread c.take_event.new.input) c.in_ok-input.ensures
-    (g.S.Source.left c.args.source.now) (g.S.Source.left c.take_event.new.source) (g.K.Sink.taken c.args.sink.now) (g.K.Sink.taken c.refuse-in-Ok-Refused.new.sink) c.in-Ok-Refused.kind took (c.refuse-in-Ok-Refused.ensures.bad is)
+    replay_refused (unread c.in_ok-input.input) (unread c.take_event.new.input) c.in_ok-input.ensures
+    (g.S.Source.left c.args.source.now) (g.S.Source.left c.take_event.new.source) (g.K.Sink.taken c.args.sink.now) (g.K.Sink.taken c.refuse-in-Ok-Refused.new.sink)
+    (g.R.Rack.counts c.args.rack) (g.R.Rack.bytes c.args.rack) (g.R.Rack.tells c.args.rack) c.in-Ok-Refused.kind took (c.refuse-in-Ok-Refused.ensures.bad is)
 
 pub returns-in-Ok-Event-Array-default-clause-broken : goal.returns-in-Ok-Event-Array-default-clause-broken
 returns-in-Ok-Event-Array-default-clause-broken g c =
@@ -76,14 +79,16 @@ returns-in-Ok-Event-Array-default-clause-none g c =
 pub returns-in-Ok-End-clause-part : goal.returns-in-Ok-End-clause-part
 returns-in-Ok-End-clause-part g c is =
     let took = rw c.in-Ok-End.field-0-is at c.in-Ok-End.ensures.took in
-    empty_part (g.R.Rack.counts c.args.rack) (g.R.Rack.counts c.args.rack) (g.R.Rack.bytes c.args.rack) (g.R.Rack.bytes c.args.rack) (g.R.Rack.tells c.args.rack) (unread c.in_ok-input.input) (unread c.take_event.new.input) c.in_ok-input.ensures
-    (g.S.Source.left c.args.source.now) (g.S.Source.left c.take_event.new.source) (g.K.Sink.taken c.args.sink.now) (g.K.Sink.taken c.refuse.new.sink) took (c.refuse.ensures.part is)
+    empty_part (unread c.in_ok-input.input) (unread c.take_event.new.input) c.in_ok-input.ensures
+    (g.S.Source.left c.args.source.now) (g.S.Source.left c.take_event.new.source) (g.K.Sink.taken c.args.sink.now) (g.K.Sink.taken c.refuse.new.sink)
+    (g.R.Rack.counts c.args.rack) (g.R.Rack.bytes c.args.rack) (g.R.Rack.tells c.args.rack) took (c.refuse.ensures.part is)
 
 pub returns-in-Ok-Refused-clause-part : goal.returns-in-Ok-Refused-clause-part
 returns-in-Ok-Refused-clause-part g c is =
     let took = rw c.in-Ok-Refused.field-0-is at c.in-Ok-Refused.ensures.took in
-    refused_part (g.R.Rack.counts c.args.rack) (g.R.Rack.counts c.args.rack) (g.R.Rack.bytes c.args.rack) (g.R.Rack.bytes c.args.rack) (g.R.Rack.tells c.args.rack) (unread c.in_ok-input.input) (unread c.take_event.new.input) c.in_ok-input.ensures
-    (g.S.Source.left c.args.source.now) (g.S.Source.left c.take_event.new.source) (g.K.Sink.taken c.args.sink.now) (g.K.Sink.taken c.refuse-in-Ok-Refused.new.sink) c.in-Ok-Refused.kind took (c.refuse-in-Ok-Refused.ensures.part is)
+    refused_part (unread c.in_ok-input.input) (unread c.take_event.new.input) c.in_ok-input.ensures
+    (g.S.Source.left c.args.source.now) (g.S.Source.left c.take_event.new.source) (g.K.Sink.taken c.args.sink.now) (g.K.Sink.taken c.refuse-in-Ok-Refused.new.sink)
+    (g.R.Rack.counts c.args.rack) (g.R.Rack.bytes c.args.rack) (g.R.Rack.tells c.args.rack) c.in-Ok-Refused.kind took (c.refuse-in-Ok-Refused.ensures.part is)
 
 pub returns-clause-broken : goal.returns-clause-broken
 returns-clause-broken g c = λ is.
