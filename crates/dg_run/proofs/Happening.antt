@@ -25,7 +25,7 @@ use Rattle.dg_run.specs.Plain.{IsOfPairs}
 use Rattle.dg_run.specs.Replays.{HoldsInUse}
 use Rattle.dg_run.specs.Steps.{Answered, AnsweredBefore, AnsweredPart, Known, ListedBefore, StandsIn, StepsTo, VolumeStepsTo, WantedFor, rack_of}
 use Rattle.dg_run.specs.declared.arrays.Array as arrays
-use Rattle.dg_store.specs.Leaves.{IsCallBelow}
+use Rattle.dg_store.specs.Leaves.{IsCallOrExtendBelow}
 use Rattle.dg_volume.specs.HeldLaws.{holds_all}
 use Rattle.dg_volume.specs.Volumes.{any_phase}
 use Rattle.dg_volume.specs.Volumes as volumes
@@ -129,7 +129,7 @@ module _ {R : Type 0} (rack : Ghosts R) (none : (s : R) → rack.made s [] s) (b
   happens a b event reply state next goes stands allowed step = record {
     step = step;
     allowed = allowed;
-    rise = rises rack none both law (IsCallBelow (boundaries_of a)) (below_of a) (below_of b) goes.made;
+    rise = rises rack none both law (IsCallOrExtendBelow (boundaries_of a)) (below_of a) (below_of b) goes.made;
     tied = tied_in b next goes.ready stands;
   }
 

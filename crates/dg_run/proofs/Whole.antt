@@ -17,7 +17,7 @@ use Rattle.dg_run.proofs.Continuing.{others_counts, others_same}
 use Rattle.dg_run.proofs.Happening.{history_less, holds_in_use, weaker_runs}
 use Rattle.dg_run.specs.Histories.{Continues, IsBlankReady, KnownBy, VolumeRunsTo, below_of, boundaries_of, moment_of}
 use Rattle.dg_run.specs.Steps.{shape_of}
-use Rattle.dg_store.specs.Leaves.{IsCallBelow}
+use Rattle.dg_store.specs.Leaves.{IsCallOrExtendBelow}
 use Rattle.dg_model.specs.declared.shapes.Shape.{Shape}
 use Rattle.dg_model.specs.declared.events.Event.{Event}
 use Rattle.dg_model.specs.declared.events.Event.TheVariants.{Array as MakeArray}
@@ -59,9 +59,9 @@ module _ {R : Type 0} (ghosts : Ghosts R) (none : (s : R) → ghosts.made s [] s
   same_shape = blank.shape_is
 
   -- the calls from the first line on
-  pub made_all : Makes ghosts (IsCallBelow shape.b) rack (below_of b)
-  made_all = makes_both ghosts (IsCallBelow shape.b) rack (below_of a) (below_of b) blank.made
-      (subst (λ (n : ℕ). Makes ghosts (IsCallBelow n) (below_of a) (below_of b)) blank.boundaries goes.made)
+  pub made_all : Makes ghosts (IsCallOrExtendBelow shape.b) rack (below_of b)
+  made_all = makes_both ghosts (IsCallOrExtendBelow shape.b) rack (below_of a) (below_of b) blank.made
+      (subst (λ (n : ℕ). Makes ghosts (IsCallOrExtendBelow n) (below_of a) (below_of b)) blank.boundaries goes.made)
 
   -- the members behind the first line's boundaries were left alone
   others_kept : OthersKept (boundaries_of b) (ghosts.counts rack) (ghosts.counts (below_of b)) (ghosts.bytes rack) (ghosts.bytes (below_of b))

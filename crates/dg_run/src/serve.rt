@@ -6,7 +6,7 @@ ghost use Rattle.dg_text.specs.Replies.{reply_line};
 ghost use Rattle.dg_io.specs.Told.{Told, Took, TookPart};
 ghost use Rattle.dg_run.specs.Histories.{Continues, EventAnswered, EventCut, EventWanted, IsReady};
 ghost use Rattle.dg_run.specs.Plain.{IsOfPairs, is_plain};
-ghost use Rattle.dg_run.specs.Steps.{Answered, AnsweredPart, GoesOn, IsSound, StepsTo, shape_of};
+ghost use Rattle.dg_run.specs.Steps.{Answered, AnsweredPart, GoesOn, GoesSaved, IsSound, StepsTo, shape_of};
 
 use crate::arrays::Array;
 use crate::blocks::{fill_block, trimmed};
@@ -86,7 +86,7 @@ fn serve_read<R: Rack, K: Sink>(
 /// Saves the state, where all boundaries are in use.
 fn save<R: Rack>(alloc: Global, array: &mut Array<R>) -> Result<Reply, NoMemory>
     requires sound { IsSound R.Rack array.old }
-    ensures goes { GoesOn R.Rack array.old array.new }
+    ensures goes { GoesSaved R.Rack array.old array.new }
     ensures steps { IfOk result (λ reply. StepsTo R.Rack array.old Event.Save reply array.new) }
     ensures of_pairs { IfOk result (λ reply. IsOfPairs array.old Event.Save reply) }
 {
@@ -96,7 +96,8 @@ fn save<R: Rack>(alloc: Global, array: &mut Array<R>) -> Result<Reply, NoMemory>
     Ok(save_reply(array.volume.save(alloc, &array.hot)?))
 }
 
-/// Does an event that is answered by one reply, known whole before it is written, which tells no bytes of a block; and answers that.
+/// Does an event that is answered by one reply, known whole before it is written, which tells no bytes of a block, and extends no member; and answers
+/// that.
 fn reply_to<R: Rack>(
     alloc: Global,
     array: &mut Array<R>,
@@ -124,7 +125,6 @@ fn reply_to<R: Rack>(
         Event::Diffuse => Ok(diffuse_reply(array.volume.diffuse(alloc, &array.hot)?)),
         Event::Who(b) => Ok(who_reply(array.volume.who(*b))),
         Event::Home(path) => Ok(home_reply(array.volume.home(path.as_slice()))),
-        Event::Save => save(alloc, array),
         Event::Audit => Ok(audit_reply(array.volume.audit(alloc)?)),
         Event::DropDisk(_, _) | Event::MendDisk(_, _) => Ok(Reply::NotParity),
         Event::Array(_)
@@ -135,8 +135,31 @@ fn reply_to<R: Rack>(
         | Event::Cat(_)
         | Event::Ls(_)
         | Event::Tree
+        | Event::Save
         | Event::Regroup
         | Event::LostFiles => unreachable!(),
+    }
+}
+
+/// Saves the state, and writes the reply.
+fn serve_save<R: Rack, K: Sink>(
+    alloc: Global,
+    array: &mut Array<LiveRack<R>>,
+    sink: &mut K,
+) -> Result<(), Fault>
+    requires ready { IsReady R.Rack array.old }
+    ensures goes { Continues R.Rack array.old array.new }
+    ensures answered { OnOk result (EventAnswered R.Rack Event.Save (K.taken sink.old) (K.taken sink.new) array.old array.new) }
+    ensures part { result ≡ Err Fault.Write → EventCut R.Rack Event.Save (K.taken sink.old) (K.taken sink.new) array.old array.new }
+    ensures wanting { result ≡ Err Fault.NoMemory → K.taken sink.new ≡ K.taken sink.old }
+    ensures later { K.faults sink.old ≤ K.faults sink.new }
+    ensures kept { (result ≡ Err Fault.Write → ⊥) → K.faults sink.new ≡ K.faults sink.old }
+    ensures read { result ≡ Err Fault.Read → ⊥ }
+    ensures write { result ≡ Err Fault.Write → Rose (K.faults sink.old) (K.faults sink.new) }
+{
+    match save(alloc, array) {
+        Ok(reply) => send(sink, &reply),
+        Err(_) => Err(Fault::NoMemory),
     }
 }
 
@@ -193,6 +216,7 @@ pub fn serve<R: Rack, K: Sink>(
         Event::Cat(path) => serve_cat(array, sink, path),
         Event::Ls(path) => serve_ls(array, sink, path),
         Event::Tree => serve_tree(alloc, array, sink),
+        Event::Save => serve_save(alloc, array, sink),
         Event::Regroup => serve_regroup(alloc, array, sink),
         Event::LostFiles => serve_lost(alloc, array, sink),
         plain => serve_plain(alloc, array, sink, plain, block),

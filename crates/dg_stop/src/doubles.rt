@@ -178,7 +178,7 @@ impl<R: Rack> Rack for DoubleRack<R> {
         requires longer { IfSome (double_bytes R.Rack self.old member) (FitsIn length) }
         ensures ok { OnOk result (Told (Extended length) (double_bytes R.Rack self.old member) (double_bytes R.Rack self.new member)) }
         ensures err { OnErr result (Told KeepsFront (double_bytes R.Rack self.old member) (double_bytes R.Rack self.new member)) }
-        ensures made { DoubleMade R.Rack self.old (RackCall.calls member ∷ []) self.new }
+        ensures made { DoubleMade R.Rack self.old (RackCall.extends member ∷ []) self.new }
         ensures leaves { Leaves (double_words R.Rack) member result self.old self.new }
         ensures writes { RoseByOne (double_counts R.Rack self.old).writes (double_counts R.Rack self.new).writes }
         ensures calls { self.new.rack ≡ self.old.rack }

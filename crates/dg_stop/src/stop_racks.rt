@@ -174,7 +174,7 @@ impl<R: Rack> Rack for StopRack<R> {
         requires longer { IfSome (stop_bytes R.Rack self.old member) (FitsIn length) }
         ensures ok { OnOk result (Told (Extended length) (stop_bytes R.Rack self.old member) (stop_bytes R.Rack self.new member)) }
         ensures err { OnErr result (Told KeepsFront (stop_bytes R.Rack self.old member) (stop_bytes R.Rack self.new member)) }
-        ensures made { StopMade R.Rack self.old (RackCall.calls member ∷ []) self.new }
+        ensures made { StopMade R.Rack self.old (RackCall.extends member ∷ []) self.new }
         ensures leaves { Leaves (stop_words R.Rack) member result self.old self.new }
         ensures writes { RoseByOne (stop_counts R.Rack self.old).writes (stop_counts R.Rack self.new).writes }
         ensures calls { MostCalls R.Rack (calls_to_look self.old) (behind self.old) (behind self.new) }

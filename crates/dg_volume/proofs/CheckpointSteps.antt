@@ -18,6 +18,7 @@ use Rattle.dg_model.specs.declared.events.Event.TheVariants.{Save}
 use Rattle.dg_model.specs.declared.members.MemberState.TheVariants.{Out}
 use Rattle.dg_model.specs.declared.replies.Reply.TheVariants.{Lost, Saved}
 use Rattle.dg_model.specs.declared.shapes.Shape.{Shape}
+use Rattle.dg_store.specs.Leaves.{IsCallOrExtendBelow}
 use Rattle.dg_store.specs.Stores as stores
 use Rattle.dg_store.specs.declared.store.Store.{Store}
 use Rattle.dg_volume.proofs.CommitSteps.{commit_goes, left_at, passes_at, saves_at}
@@ -26,19 +27,20 @@ use Rattle.dg_volume.proofs.UseLaws.{least_here}
 use Rattle.dg_volume.proofs.VolumeLaws.{leaves_none}
 use Rattle.dg_volume.specs.Commits.{CommitsArray, committed, left_on}
 use Rattle.dg_volume.specs.Copies.{StepsHot}
+use Rattle.dg_volume.specs.HeldLaws.{leaves_or_extend}
 use Rattle.dg_volume.specs.Regroups.{GoesOn}
 use Rattle.dg_volume.specs.Settles.{KeepsArray}
-use Rattle.dg_volume.specs.Volumes.{IsWell, Leaves, line_of, live_of, members_of, shape_of, state_of}
+use Rattle.dg_volume.specs.Volumes.{IsWell, LeavesBy, line_of, live_of, members_of, shape_of, state_of}
 use Rattle.dg_volume.specs.declared.phases.InPhase as phases
 use Rattle.dg_volume.specs.declared.volumes.Volume.{Volume}
 
 module _ {S R : Type 0} (phase : phases.Ghosts S) (rack : Ghosts R) where
   -- nothing was done
-  pub untouched : (a : Volume S R) → IsWell phase rack a → Leaves phase phase rack a a × KeepsArray rack a a
-  untouched a well = (leaves_none phase rack a well, λ told V held. held)
+  pub untouched : (a : Volume S R) → IsWell phase rack a → LeavesBy phase phase rack IsCallOrExtendBelow a a × KeepsArray rack a a
+  untouched a well = (leaves_or_extend phase phase rack a a (leaves_none phase rack a well), λ told V held. held)
 
   -- a save, and then calls behind it
-  pub goes_behind : (a m b : Volume S R) → Leaves phase phase rack a m → GoesOn phase rack m b → GoesOn phase rack a b
+  pub goes_behind : (a m b : Volume S R) → LeavesBy phase phase rack IsCallOrExtendBelow a m → GoesOn phase rack m b → GoesOn phase rack a b
   goes_behind a m b first second =
       let rise = first.rise in
       record {
@@ -63,7 +65,7 @@ module _ {S R : Type 0} (phase : phases.Ghosts S) (rack : Ghosts R) where
 
   -- ---- no member is good: the label is the one that was kept before
 
-  module _ (room : R → Option ℕ) (extra : List ℕ) (answer : CommitAnswer) (a m : Volume S R) (store : Store R) (well : IsWell phase rack a) (saved : Leaves phase phase rack a m)
+  module _ (room : R → Option ℕ) (extra : List ℕ) (answer : CommitAnswer) (a m : Volume S R) (store : Store R) (well : IsWell phase rack a) (saved : LeavesBy phase phase rack IsCallOrExtendBelow a m)
       (h : CommitsArray rack room extra answer m.store store) (none : HasNoGood store) where
     abbrev after : Volume S R
     after = record m { store = store; label = a.label }

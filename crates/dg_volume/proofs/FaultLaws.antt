@@ -1,8 +1,9 @@
 -- What calls leave of an array, and of the counts of faults.
 use Rattle.std.proofs.Common.{◌≡◌, ◌∙◌, ◌<◌, ◌≤◌, ◌/◌, ℕ, Bool, List, inl, inr, ap, sym, subst, arith}
 use Rattle.std.proofs.lemmas.Bool.{cases_lt}
+use Rattle.dg_io.specs.RackCalls.{RackCall}
 use Rattle.dg_io.specs.declared.outside.Rack.{Ghosts}
-use Rattle.dg_label.specs.Seals.{KeepsArray}
+use Rattle.dg_label.specs.Seals.{KeepsArray, KeepsArrayBy}
 use Rattle.dg_model.specs.Members.{MembersFall}
 use Rattle.dg_model.specs.declared.members.MemberState.{MemberState}
 use Rattle.dg_model.specs.declared.members.MemberState.TheVariants.{Out}
@@ -65,10 +66,10 @@ module _ {R : Type 0} (rack : Ghosts R) where
   keeps_outs a b h = h.idle
 
   -- calls beside the slots
-  pub array_tells : (a b : Store R) → KeepsArray rack a b → TellsFaults rack a b
+  pub array_tells : {may : ℕ → RackCall → Type 0} (a b : Store R) → KeepsArrayBy rack may a b → TellsFaults rack a b
   array_tells a b h = record { fell = λ q below rose. h.fell q rose; beyond = h.stays.own.other_faults }
 
-  pub array_outs : (a b : Store R) → KeepsArray rack a b → OutsStay rack a b
+  pub array_outs : {may : ℕ → RackCall → Type 0} (a b : Store R) → KeepsArrayBy rack may a b → OutsStay rack a b
   array_outs a b h = h.idle
 
   -- a refill, by what it says of the slots that it passed

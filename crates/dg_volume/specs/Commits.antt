@@ -17,11 +17,12 @@ use Rattle.dg_model.specs.declared.replies.Reply.{Reply}
 use Rattle.dg_model.specs.declared.replies.Reply.TheVariants.{Lost as LostReply, NotSaved as NotSavedReply, Saved as SavedReply}
 use Rattle.dg_regroup.specs.Extras.{extra_bytes}
 use Rattle.dg_regroup.specs.declared.extras.Extra.{Extra}
+use Rattle.dg_store.specs.Leaves.{IsCallOrExtendBelow}
 use Rattle.dg_store.specs.Stores.{IsSound, IsWhole, KeepsBlocks}
 use Rattle.dg_store.specs.Stores as stores
 use Rattle.dg_store.specs.declared.store.Store.{Store}
 use Rattle.dg_volume.specs.Origins.{Origin, WasHeld}
-use Rattle.dg_volume.specs.Volumes.{Leaves, StandsIn, cut_of, live_of, members_of, rack_of, shape_of}
+use Rattle.dg_volume.specs.Volumes.{LeavesBy, StandsIn, cut_of, live_of, members_of, rack_of, shape_of}
 use Rattle.dg_volume.specs.declared.commits.CheckpointAnswer.{CheckpointAnswer}
 use Rattle.dg_volume.specs.declared.commits.CheckpointAnswer.TheVariants.{Lost, NotSaved, Saved}
 use Rattle.dg_volume.specs.declared.phases.InPhase as phases
@@ -108,11 +109,11 @@ pub record CannotSave {S R : Type 0} (room : R → Option ℕ) (volume : Volume 
 pub record KeepsSaved {S R : Type 0} (phase : phases.Ghosts S) (rack : Ghosts R) (room : R → Option ℕ) (old new : Volume S R) : Type 0 where
   pub mid : Volume S R
   pub answer : CommitAnswer
-  pub saved : Leaves phase phase rack old mid
+  pub saved : LeavesBy phase phase rack IsCallOrExtendBelow old mid
   pub commits : CommitsArray rack room (extra_bytes (extra_of old)) answer mid.store new.store
 
 -- By the answer. Where the save itself left no good member, nothing was kept anew.
 abbrev pub KeepsBy : {S R : Type 0} → phases.Ghosts S → Ghosts R → (R → Option ℕ) → Volume S R → Volume S R → CheckpointAnswer → Type 0
 KeepsBy phase rack room old new (Saved sequence) = KeepsSaved phase rack room old new × HasGood new.store
-KeepsBy phase rack room old new (Lost s) = Leaves phase phase rack old new ⊎ (KeepsSaved phase rack room old new × HasNoGood new.store)
+KeepsBy phase rack room old new (Lost s) = LeavesBy phase phase rack IsCallOrExtendBelow old new ⊎ (KeepsSaved phase rack room old new × HasNoGood new.store)
 KeepsBy phase rack room old new NotSaved = new ≡ old

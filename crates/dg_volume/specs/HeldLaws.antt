@@ -7,9 +7,9 @@ use Rattle.dg_label.specs.LineLaws.{label_of_whole}
 use Rattle.dg_model.specs.Seals.{LastLabel}
 use Rattle.dg_model.specs.States.{AreFresh, Holds, HoldsAll, State}
 use Rattle.dg_model.specs.declared.shapes.Shape.{Shape}
-use Rattle.dg_store.specs.Leaves.{CallsBelow}
-use Rattle.dg_store.specs.ReadLaws.{own_both, own_none}
-use Rattle.dg_volume.specs.Volumes.{IsWell, Known, StandsIn, StandsUnder, Tells, line_of, live_of, rack_of, shape_of}
+use Rattle.dg_store.specs.Leaves.{CallsBelow, IsCallOrExtendBelow}
+use Rattle.dg_store.specs.ReadLaws.{own_both, own_none, own_or_extend}
+use Rattle.dg_volume.specs.Volumes.{IsWell, Known, Leaves, LeavesBy, StandsIn, StandsUnder, Tells, line_of, live_of, rack_of, shape_of}
 use Rattle.dg_volume.specs.declared.phases.InPhase as phases
 use Rattle.dg_volume.specs.declared.volumes.Volume.{Volume}
 
@@ -20,6 +20,21 @@ own_still rack volume = own_none rack (shape_of volume).b (rack_of volume)
 -- calls on members of an array of this shape, and then others on them
 pub own_then : {R : Type 0} (rack : Ghosts R) (one other : Shape) (a b c : R) → other ≡ one → CallsBelow rack one.b a b → CallsBelow rack other.b b c → CallsBelow rack one.b a c
 own_then rack one other a b c same first second = own_both rack one.b a b c first (subst (λ (s : Shape). CallsBelow rack s.b b c) same second)
+
+-- a call that extends no member leaves what one leaves that may
+pub leaves_or_extend : {S T R : Type 0} (from : phases.Ghosts S) (to : phases.Ghosts T) (rack : Ghosts R) (old : Volume S R) (new : Volume T R) → Leaves from to rack old new → LeavesBy from to rack IsCallOrExtendBelow old new
+leaves_or_extend from to rack old new leaves = record {
+  well = leaves.well;
+  shape = leaves.shape;
+  boundaries = leaves.boundaries;
+  live = leaves.live;
+  line = leaves.line;
+  rise = leaves.rise;
+  tells = leaves.tells;
+  told_before = leaves.told_before;
+  own = own_or_extend rack (shape_of old).b (rack_of old) (rack_of new) leaves.own;
+  same_rack = leaves.same_rack;
+}
 
 -- a member whose bytes are told is one of which the rack tells them as long as it stands
 abbrev pub TellsTold : {R : Type 0} → Ghosts R → Type 0

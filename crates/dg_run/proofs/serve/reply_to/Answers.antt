@@ -1,7 +1,6 @@
 use Rattle.std.proofs.Common.{◌≡◌, ◌∙◌, ℕ, List, ap, refl, subst, sym}
 use Rattle.dg_model.specs.Blocks.{padded}
 use Rattle.dg_model.specs.declared.events.Event.{Event}
-use Rattle.std.specs.Prelude.{IfOk}
 use Rattle.dg_model.specs.declared.events.Event.TheVariants.{Audit, Diffuse, Fail, Home, Rebuild, Replace, Settle, Tend, Who, Write}
 use Rattle.dg_model.specs.declared.replies.Reply.{Reply}
 use Rattle.dg_run.proofs.ArraySteps.{disk_pairs, disk_steps, steps_hot, steps_of, steps_sized}
@@ -123,13 +122,6 @@ returns-in_ok-rebuild-in-Rebuild-clause-of_pairs g c = subst (λ (e : Event). Is
 
 pub returns-in_ok-diffuse-in-Diffuse-clause-of_pairs : goal.returns-in_ok-diffuse-in-Diffuse-clause-of_pairs
 returns-in_ok-diffuse-in-Diffuse-clause-of_pairs g c = subst (λ (e : Event). IsOfPairs c.args.array.now e c.diffuse_reply.result) (sym c.in-Diffuse.is) tt
-
-pub returns-in-Save-clause-steps : goal.returns-in-Save-clause-steps
-returns-in-Save-clause-steps g c =
-    subst (λ (e : Event). IfOk c.save.result (λ reply. StepsTo g.R.Rack c.args.array.now e reply c.save.new.array)) (sym c.in-Save.is) c.save.ensures.steps
-
-pub returns-in-Save-clause-of_pairs : goal.returns-in-Save-clause-of_pairs
-returns-in-Save-clause-of_pairs g c = subst (λ (e : Event). IfOk c.save.result (λ reply. IsOfPairs c.args.array.now e reply)) (sym c.in-Save.is) c.save.ensures.of_pairs
 
 pub returns-in-DropDisk-clause-of_pairs : goal.returns-in-DropDisk-clause-of_pairs
 returns-in-DropDisk-clause-of_pairs g c = disk_pairs g.R.Rack c.args.array.now c.args.event.now c.in-DropDisk.is
