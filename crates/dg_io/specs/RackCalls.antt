@@ -28,6 +28,13 @@ IsNotOn q call = member_of call ≢ q
 abbrev pub IsNotAt : ℕ → RackCall → Type 0
 IsNotAt s call = member_of call / 2 ≢ s
 
+-- it reads or writes
+abbrev pub IsReadOrWrite : RackCall → Type 0
+IsReadOrWrite (looks q) = ⊥
+IsReadOrWrite (blanks q) = ⊥
+IsReadOrWrite (calls q) = Unit {0}
+IsReadOrWrite (extends q) = ⊥
+
 -- it makes no member anew
 abbrev pub IsNoBlank : RackCall → Type 0
 IsNoBlank (looks q) = Unit {0}

@@ -186,7 +186,7 @@ module _ {S T E : Type 0} (rack : Ghosts S) (q : ℕ) (result : Result T E) (m n
     stands_on = ok_on result (stands_in n q ≡ true) (stands_in m q ≡ true → stands_in n q ≡ true) (λ is h. is) ok;
     tells = λ r told. some_seen m r (rack.bytes a r) (serves.tells r (seen_some n r (rack.bytes b r) told));
     told_before = (after a b only.calls only.made).told_before;
-    rise = (after a b only.calls only.made).rise.faults;
+    rise = (after a b only.calls only.made).rise;
     disks = disks_on q only.calls only.each (rack.disks a) (rack.disks b) (after a b only.calls only.made).disks_after;
   }
 
@@ -218,7 +218,7 @@ module _ {S T E : Type 0} (rack : Ghosts S) (call : RackCall) (q : ℕ) (result 
     stands_on = ok_on result (stands_in n q ≡ stands_in m q) (stands_in m q ≡ true → stands_in n q ≡ true) (λ is h. is ∙ h) ok;
     tells = λ r told. some_seen m r (rack.bytes a r) (seen_some n r (rack.bytes a r) told);
     told_before = λ r h. h;
-    rise = λ r. omega arith;
+    rise = record { faults = λ r. omega arith; calls = omega arith; writes = omega arith };
     disks = disks_none (rack.disks a) call;
   }
 

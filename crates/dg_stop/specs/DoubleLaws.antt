@@ -7,6 +7,7 @@ use Rattle.dg_io.specs.RackCalls.{RackCall}
 use Rattle.dg_io.specs.RackWords.{After}
 use Rattle.dg_io.specs.declared.outside.Rack.{Ghosts}
 use Rattle.dg_model.specs.Causes.{Rose}
+use Rattle.dg_model.specs.States.{Counts, CountsRise}
 use Rattle.dg_stop.specs.Doubles.{Double, DoubleMade, double_bytes, double_counts, double_disks, double_keeps, double_name, double_stands, double_steady, double_tells, double_words, seen_in, stands_in}
 use Rattle.dg_stop.specs.declared.memories.Memory.{Memory}
 
@@ -36,11 +37,18 @@ rose_then a b c rose later = omega (arith, rose, later)
 then_rose : (a b c : ℕ) → a ≤ b → Rose b c → Rose a c
 then_rose a b c later rose = omega (arith, rose, later)
 
+rise_both : (a b c : Counts) → CountsRise a b → CountsRise b c → CountsRise a c
+rise_both a b c first second = record {
+  faults = λ q. omega (arith, first.faults q, second.faults q);
+  calls = omega (arith, first.calls, second.calls);
+  writes = omega (arith, first.writes, second.writes);
+}
+
 module _ {R : Type 0} (rack : Ghosts R) where
   pub double_none : (s : Double R) → DoubleMade rack s [] s
   double_none s = record {
     after = after_none (double_name rack) (double_bytes rack) (double_counts rack) (double_stands rack) (double_steady rack) (double_tells rack) (double_keeps rack) (double_disks rack) s;
-    behind = λ q. omega arith;
+    behind = record { faults = λ q. omega arith; calls = omega arith; writes = omega arith };
     cause = λ q tells each rose. absurd (omega (arith, rose));
   }
 
@@ -48,10 +56,10 @@ module _ {R : Type 0} (rack : Ghosts R) where
   double_both a b c x y first second = record {
     after = after_both (double_name rack) (double_bytes rack) (double_counts rack) (double_stands rack) (double_steady rack) (double_tells rack) (double_keeps rack) (double_disks rack) a b c x y
         first.after second.after;
-    behind = λ q. omega (arith, first.behind q, second.behind q);
+    behind = rise_both (rack.counts a.rack) (rack.counts b.rack) (rack.counts c.rack) first.behind second.behind;
     cause = λ q tells each rose. elim (cases_lt (slice_index a.tally.faults q) (slice_index b.tally.faults q)) [
-      | inl early ↦ rose_then _ _ _ (first.cause q (second.after.told_before q tells) (each_front _ x y each) early) (second.behind q)
-      | inr late ↦ then_rose _ _ _ (first.behind q) (second.cause q tells (each_back _ x y each) (omega (arith, rose, late)))
+      | inl early ↦ rose_then _ _ _ (first.cause q (second.after.told_before q tells) (each_front _ x y each) early) (second.behind.faults q)
+      | inr late ↦ then_rose _ _ _ (first.behind.faults q) (second.cause q tells (each_back _ x y each) (omega (arith, rose, late)))
     ];
   }
 
