@@ -97,7 +97,7 @@ fell_out x f g same q rose = elim (out_or (members_of x q)) [
 -- a call on a member that isn't out is one on a member of the boundary
 call_at : (x : Boundary) → IsWell x → (call : RackCall) → IsCallOf (members_of x) call → IsCallAt (number_of x) call
 call_at x well (looks q) is = is
-call_at x well (blanks q) is = absurd is
+call_at x well (blanks q) is = is
 call_at x well (calls q) is = elim (cases_eq (q / 2) (number_of x)) [ inl e ↦ e | inr other ↦ absurd (is (own_members x well q other)) ]
 call_at x well (extends q) is = is
 

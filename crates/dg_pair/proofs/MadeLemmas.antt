@@ -20,7 +20,7 @@ use Rattle.dg_pair.specs.declared.boundaries.ReplaceAnswer.{ReplaceAnswer}
 use Rattle.dg_pair.specs.declared.boundaries.ReplaceAnswer.TheVariants.{Replaced, Lost, NotOut, Failed}
 use Rattle.dg_pair.specs.declared.boundaries.Boundary.TheVariants.{Both, Half, Fill}
 use Rattle.dg_pair.specs.Boundaries.{members_of}
-use Rattle.dg_pair.specs.Calls.{IsBlankOf, IsCallAt, IsCallOf, IsExtendOf}
+use Rattle.dg_pair.specs.Calls.{IsBlankAt, IsBlankOf, IsCallOf, IsExtendOf}
 
 is_good : (m : MemberState) → m ≡ Good → m ≢ Out
 is_good m good out = let e = sym good ∙ out in cc
@@ -86,13 +86,13 @@ replace_made rack none Failed p before now made quiet = only_one rack _ (blanks 
 replace_made rack none Lost p before now made quiet = subst (λ s. MadeOnly rack (IsBlankOf p) before s) (sym (quiet (inl refl))) (only_none rack _ none before)
 replace_made rack none NotOut p before now made quiet = subst (λ s. MadeOnly rack (IsBlankOf p) before s) (sym (quiet (inr refl))) (only_none rack _ none before)
 
-blank_at : (number side : ℕ) → side < 2 → (call : RackCall) → IsBlankOf (2 * number + side) call → IsCallAt number call
+blank_at : (number side : ℕ) → side < 2 → (call : RackCall) → IsBlankOf (2 * number + side) call → IsBlankAt number call
 blank_at number side small (looks q) is = is
 blank_at number side small (blanks q) is = omega (arith, small, is)
-blank_at number side small (calls q) is = absurd is
+blank_at number side small (calls q) is = is
 blank_at number side small (extends q) is = is
 
-pub replace_at : {S : Type 0} (rack : Ghosts S) (number side : ℕ) (before now : S) → side < 2 → MadeOnly rack (IsBlankOf (2 * number + side)) before now → MadeOnly rack (IsCallAt number) before now
+pub replace_at : {S : Type 0} (rack : Ghosts S) (number side : ℕ) (before now : S) → side < 2 → MadeOnly rack (IsBlankOf (2 * number + side)) before now → MadeOnly rack (IsBlankAt number) before now
 replace_at rack number side before now small only = only_such rack _ _ before now (blank_at number side small) only
 
 -- the two members of a new boundary are made anew in their order
@@ -100,5 +100,5 @@ pub new_made : {S : Type 0} (rack : Ghosts S) → ((a b c : S) (x y : List RackC
     → rack.made first (blanks (2 * number) ∷ []) mid → rack.made mid (blanks (2 * number + 1) ∷ []) last → rack.made first (blanks (2 * number) ∷ blanks (2 * number + 1) ∷ []) last
 new_made rack then number first mid last one two = then first mid last (blanks (2 * number) ∷ []) (blanks (2 * number + 1) ∷ []) one two
 
-pub new_at : {S : Type 0} (rack : Ghosts S) (number : ℕ) (first last : S) → rack.made first (blanks (2 * number) ∷ blanks (2 * number + 1) ∷ []) last → MadeOnly rack (IsCallAt number) first last
+pub new_at : {S : Type 0} (rack : Ghosts S) (number : ℕ) (first last : S) → rack.made first (blanks (2 * number) ∷ blanks (2 * number + 1) ∷ []) last → MadeOnly rack (IsBlankAt number) first last
 new_at rack number first last made = record { calls = blanks (2 * number) ∷ blanks (2 * number + 1) ∷ []; each = (omega arith, (omega arith, tt)); made = made }

@@ -30,10 +30,10 @@ pub record IsPair (number l slots : ℕ) (boundary : Boundary) : Type 0 where
 abbrev pub KeepsPair : Boundary → Boundary → Type 0
 KeepsPair old new = IsPair (number_of old) (size_of old) (slots_of old) new
 
--- a call on a member of boundary s, which neither looks for it nor extends it
+-- a call that reads or writes a member of boundary s
 abbrev pub IsCallAt : ℕ → RackCall → Type 0
 IsCallAt s (looks q) = ⊥
-IsCallAt s (blanks q) = q / 2 ≡ s
+IsCallAt s (blanks q) = ⊥
 IsCallAt s (calls q) = q / 2 ≡ s
 IsCallAt s (extends q) = ⊥
 
@@ -43,6 +43,13 @@ IsExtendAt s (looks q) = ⊥
 IsExtendAt s (blanks q) = ⊥
 IsExtendAt s (calls q) = ⊥
 IsExtendAt s (extends q) = q / 2 ≡ s
+
+-- a call that makes a member of boundary s anew
+abbrev pub IsBlankAt : ℕ → RackCall → Type 0
+IsBlankAt s (looks q) = ⊥
+IsBlankAt s (blanks q) = q / 2 ≡ s
+IsBlankAt s (calls q) = ⊥
+IsBlankAt s (extends q) = ⊥
 
 -- a call that reads or writes a member that isn't out
 abbrev pub IsCallOf : (ℕ → MemberState) → RackCall → Type 0
@@ -93,6 +100,10 @@ LeavesPair rack expected old new before now = LeavesBoundary rack (IsCallAt (num
 -- the same where a member of it was extended
 abbrev pub ExtendsPair : {S : Type 0} → Ghosts S → (ℕ → MemberState) → Boundary → Boundary → S → S → Type 0
 ExtendsPair rack expected old new before now = LeavesBoundary rack (IsExtendAt (number_of old)) (number_of old) (size_of old) (slots_of old) expected new before now
+
+-- the same where a member of it was made anew
+abbrev pub BlanksPair : {S : Type 0} → Ghosts S → (ℕ → MemberState) → Boundary → Boundary → S → S → Type 0
+BlanksPair rack expected old new before now = LeavesBoundary rack (IsBlankAt (number_of old)) (number_of old) (size_of old) (slots_of old) expected new before now
 
 -- each member is as long as it was, and its bytes before its slots and behind them are as they were
 abbrev pub KeepsBeside : ℕ → ℕ → (ℕ → Option (List ℕ)) → (ℕ → Option (List ℕ)) → Type 0

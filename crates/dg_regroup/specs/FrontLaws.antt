@@ -51,7 +51,7 @@ for_one may less (extends q) below (inl is) h = subst may (sym is) h
 for_one may less (extends q) below (inr is) h = subst may (sym is) (less q h)
 
 -- what holds of each call holds of each below
-each_for : (may : RackCall → Type 0) → ((q : ℕ) → may (extends q) → may (calls q)) → (made below : List RackCall) → AreFor made below → Each may made → Each may below
+pub each_for : (may : RackCall → Type 0) → ((q : ℕ) → may (extends q) → may (calls q)) → (made below : List RackCall) → AreFor made below → Each may made → Each may below
 each_for may less [] [] are each = tt
 each_for may less [] (below ∷ others) are each = absurd are
 each_for may less (call ∷ rest) [] are each = absurd are
@@ -88,6 +88,8 @@ module _ {R : Type 0} (rack : Ghosts R) where
     rise = λ q. omega arith;
     others = λ q each. refl;
     writes = omega arith;
+    same_refused = λ each q. refl;
+    same_writes = λ each. refl;
   }
 
   pub front_both : ((a b c : R) (x y : List RackCall) → rack.made a x b → rack.made b y c → rack.made a (x ++ y) c)
@@ -102,6 +104,8 @@ module _ {R : Type 0} (rack : Ghosts R) where
     rise = λ q. omega (arith, first.rise q, second.rise q);
     others = λ q each. second.others q (each_back _ x y each) ∙ first.others q (each_front _ x y each);
     writes = omega (arith, first.writes, second.writes);
+    same_refused = λ each q. second.same_refused (each_back _ x y each) q ∙ first.same_refused (each_front _ x y each) q;
+    same_writes = λ each. second.same_writes (each_back _ x y each) ∙ first.same_writes (each_front _ x y each);
   }
 
   -- what is kept below stays, and so does what members show of it

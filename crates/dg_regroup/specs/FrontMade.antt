@@ -1,7 +1,7 @@
 -- Calls that were made of a rack of which some members show their first bytes alone.
 use Rattle.std.specs.Prelude.{◌≡◌, ◌⊎◌, ◌≤◌, ◌∷◌, ℕ, List, [], slice_index}
 use Rattle.dg_io.specs.Disks.{DiskStates}
-use Rattle.dg_io.specs.RackCalls.{RackCall, Each, IsNoBlank, IsNotOn}
+use Rattle.dg_io.specs.RackCalls.{RackCall, Each, IsNoBlank, IsNotOn, IsReadOrWrite}
 use Rattle.dg_io.specs.RackCalls.RackCall.{looks, blanks, calls, extends}
 use Rattle.dg_io.specs.declared.outside.Rack.{Ghosts}
 use Rattle.dg_regroup.specs.FrontRacks.{is_front}
@@ -37,3 +37,6 @@ pub record FrontMade {R : Type 0} (rack : Ghosts R) (old : FrontRack R) (made : 
   pub rise : (q : ℕ) → slice_index old.refused q ≤ slice_index new.refused q
   pub others : (q : ℕ) → Each (IsNotOn q) made → slice_index new.refused q ≡ slice_index old.refused q
   pub writes : old.writes ≤ new.writes
+  -- calls that read and write aren't refused
+  pub same_refused : Each IsReadOrWrite made → (q : ℕ) → slice_index new.refused q ≡ slice_index old.refused q
+  pub same_writes : Each IsReadOrWrite made → new.writes ≡ old.writes

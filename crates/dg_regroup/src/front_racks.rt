@@ -166,9 +166,11 @@ impl<R: Rack> Rack for FrontRack<R> {
 }
 
 impl<R: Checkpoint> Checkpoint for FrontRack<R> {
-    ghost use Rattle.dg_regroup.specs.FrontRacks.{front_room};
+    ghost use Rattle.dg_regroup.specs.FrontRacks.{FrontCommits, front_room};
 
     ghost room_of = { front_room R.room_of };
+
+    ghost commits = { FrontCommits R.commits };
 
     fn commit(&mut self, keep: u32, extra: &[u8]) -> CommitAnswer {
         self.rack.commit(keep, extra)

@@ -22,19 +22,33 @@ pub record RackStays {R : Type 0} (rack : Ghosts R) (old new : R) : Type 0 where
   pub steady_on : rack.steady old ↔ rack.steady new
   pub told_before : (q : ℕ) → rack.tells new q → rack.tells old q
 
--- a call that makes a member of the first b boundaries anew, or reads or writes it
+-- a call that reads or writes a member of the first b boundaries
 abbrev pub IsCallBelow : ℕ → RackCall → Type 0
 IsCallBelow b (looks q) = ⊥
-IsCallBelow b (blanks q) = q / 2 < b
+IsCallBelow b (blanks q) = ⊥
 IsCallBelow b (calls q) = q / 2 < b
 IsCallBelow b (extends q) = ⊥
 
--- the same, or one that extends such a member
+-- the same, or one that extends such a member, as a save makes them
 abbrev pub IsCallOrExtendBelow : ℕ → RackCall → Type 0
 IsCallOrExtendBelow b (looks q) = ⊥
-IsCallOrExtendBelow b (blanks q) = q / 2 < b
+IsCallOrExtendBelow b (blanks q) = ⊥
 IsCallOrExtendBelow b (calls q) = q / 2 < b
 IsCallOrExtendBelow b (extends q) = q / 2 < b
+
+-- a call that reads or writes such a member, or makes it anew, as a replacement and the blank array make them
+abbrev pub IsCallOrBlankBelow : ℕ → RackCall → Type 0
+IsCallOrBlankBelow b (looks q) = ⊥
+IsCallOrBlankBelow b (blanks q) = q / 2 < b
+IsCallOrBlankBelow b (calls q) = q / 2 < b
+IsCallOrBlankBelow b (extends q) = ⊥
+
+-- any call on such a member but one that looks for it
+abbrev pub IsAnyCallBelow : ℕ → RackCall → Type 0
+IsAnyCallBelow b (looks q) = ⊥
+IsAnyCallBelow b (blanks q) = q / 2 < b
+IsAnyCallBelow b (calls q) = q / 2 < b
+IsAnyCallBelow b (extends q) = q / 2 < b
 
 -- Such calls were made, on members of the first b boundaries alone: each other one has the bytes and the count of faults that it had.
 pub record MadeBelow {R : Type 0} (rack : Ghosts R) (may : ℕ → RackCall → Type 0) (b : ℕ) (old new : R) : Type 0 where
@@ -42,7 +56,7 @@ pub record MadeBelow {R : Type 0} (rack : Ghosts R) (may : ℕ → RackCall → 
   pub other_bytes : (q : ℕ) → b ≤ q / 2 → Told IsSame (rack.bytes old q) (rack.bytes new q)
   pub other_faults : (q : ℕ) → b ≤ q / 2 → (rack.counts new).faults q ≡ (rack.counts old).faults q
 
--- none of the calls extends a member
+-- each of the calls reads or writes
 abbrev pub CallsBelow : {R : Type 0} → Ghosts R → ℕ → R → R → Type 0
 CallsBelow rack b old new = MadeBelow rack IsCallBelow b old new
 
@@ -76,7 +90,7 @@ pub record StaysBy {R : Type 0} (rack : Ghosts R) (may : ℕ → RackCall → Ty
   pub stays : RackStays rack (rack_of old) (rack_of new)
   pub own : MadeBelow rack may (shape_of old).b (rack_of old) (rack_of new)
 
--- what any call leaves that extends no member
+-- what any call leaves that neither makes a member anew nor extends one
 abbrev pub Stays : {R : Type 0} → Ghosts R → Store R → Store R → Type 0
 Stays rack old new = StaysBy rack IsCallBelow old new
 

@@ -20,7 +20,7 @@ use Rattle.dg_model.specs.declared.shapes.Shape.{Shape}
 use Rattle.dg_model.specs.declared.sites.Site.{Site}
 use Rattle.dg_pair.specs.Calls.{IsCallOf, KeepsBeside}
 use Rattle.dg_store.specs.declared.store.Store.{Store}
-use Rattle.dg_store.specs.Leaves.{CallsBelow, FailedAreOut, IsCallBelow, IsCallOrExtendBelow, Keeps, MadeBelow, OutAreIdle, RackStays, Stays, StaysBy}
+use Rattle.dg_store.specs.Leaves.{CallsBelow, FailedAreOut, IsAnyCallBelow, IsCallBelow, IsCallOrBlankBelow, IsCallOrExtendBelow, Keeps, MadeBelow, OutAreIdle, RackStays, Stays, StaysBy}
 use Rattle.dg_store.specs.Stores.{IsSound, Tells, TellsAll, members_of, rack_of, shape_of, table_of}
 use Rattle.dg_store.specs.Views.{Fetches, ReadsOn, is_given, is_written}
 
@@ -99,18 +99,43 @@ rises_both a b c first second = record {
   writes = omega (arith, first.writes, second.writes);
 }
 
-below_wider : (l n : ℕ) → l ≤ n → (call : RackCall) → IsCallBelow l call → IsCallBelow n call
-below_wider l n wide (looks q) is = is
-below_wider l n wide (blanks q) is = omega (arith, wide, is)
-below_wider l n wide (calls q) is = omega (arith, wide, is)
-below_wider l n wide (extends q) is = is
+blank_wider : (l n : ℕ) → l ≤ n → (call : RackCall) → IsCallOrBlankBelow l call → IsCallOrBlankBelow n call
+blank_wider l n wide (looks q) is = is
+blank_wider l n wide (blanks q) is = omega (arith, wide, is)
+blank_wider l n wide (calls q) is = omega (arith, wide, is)
+blank_wider l n wide (extends q) is = is
 
--- calls of which none extends a member are calls of which some may
+-- calls that read and write are calls of which some may extend a member, or make it anew
 pub or_extend : (b : ℕ) (call : RackCall) → IsCallBelow b call → IsCallOrExtendBelow b call
 or_extend b (looks q) is = is
 or_extend b (blanks q) is = is
 or_extend b (calls q) is = is
 or_extend b (extends q) is = absurd is
+
+pub or_blank : (b : ℕ) (call : RackCall) → IsCallBelow b call → IsCallOrBlankBelow b call
+or_blank b (looks q) is = is
+or_blank b (blanks q) is = absurd is
+or_blank b (calls q) is = is
+or_blank b (extends q) is = is
+
+-- and each of these kinds is one of any calls but looks
+pub any_of_call : (b : ℕ) (call : RackCall) → IsCallBelow b call → IsAnyCallBelow b call
+any_of_call b (looks q) is = is
+any_of_call b (blanks q) is = absurd is
+any_of_call b (calls q) is = is
+any_of_call b (extends q) is = absurd is
+
+pub any_of_extend : (b : ℕ) (call : RackCall) → IsCallOrExtendBelow b call → IsAnyCallBelow b call
+any_of_extend b (looks q) is = is
+any_of_extend b (blanks q) is = absurd is
+any_of_extend b (calls q) is = is
+any_of_extend b (extends q) is = is
+
+pub any_of_blank : (b : ℕ) (call : RackCall) → IsCallOrBlankBelow b call → IsAnyCallBelow b call
+any_of_blank b (looks q) is = is
+any_of_blank b (blanks q) is = is
+any_of_blank b (calls q) is = is
+any_of_blank b (extends q) is = absurd is
 
 -- a member that isn't out in the end wasn't before
 called_before : (f g : ℕ → ℕ) (x y : ℕ → MemberState) → MembersFall f g x y → (call : RackCall) → IsCallOf y call → IsCallOf x call
@@ -169,19 +194,26 @@ module _ {R : Type 0} (rack : Ghosts R) where
     other_faults = λ q past. second.other_faults q past ∙ first.other_faults q past;
   }
 
-  pub own_wider : (l n : ℕ) (a b : R) → l ≤ n → CallsBelow rack l a b → CallsBelow rack n a b
+  pub own_wider : (l n : ℕ) (a b : R) → l ≤ n → MadeBelow rack IsCallOrBlankBelow l a b → MadeBelow rack IsCallOrBlankBelow n a b
   own_wider l n a b wide own = record {
-    made = makes_such rack (IsCallBelow l) (IsCallBelow n) (below_wider l n wide) a b own.made;
+    made = makes_such rack (IsCallOrBlankBelow l) (IsCallOrBlankBelow n) (blank_wider l n wide) a b own.made;
     other_bytes = λ q past. own.other_bytes q (omega (arith, wide, past));
     other_faults = λ q past. own.other_faults q (omega (arith, wide, past));
   }
 
-  pub own_or_extend : (b : ℕ) (x y : R) → CallsBelow rack b x y → MadeBelow rack IsCallOrExtendBelow b x y
-  own_or_extend b x y own = record {
-    made = makes_such rack (IsCallBelow b) (IsCallOrExtendBelow b) (or_extend b) x y own.made;
+  -- calls of one kind are calls of a wider one
+  pub own_such : (may such : ℕ → RackCall → Type 0) → ((b : ℕ) (call : RackCall) → may b call → such b call) → (b : ℕ) (x y : R) → MadeBelow rack may b x y → MadeBelow rack such b x y
+  own_such may such h b x y own = record {
+    made = makes_such rack (may b) (such b) (h b) x y own.made;
     other_bytes = own.other_bytes;
     other_faults = own.other_faults;
   }
+
+  pub own_or_extend : (b : ℕ) (x y : R) → CallsBelow rack b x y → MadeBelow rack IsCallOrExtendBelow b x y
+  own_or_extend b x y own = own_such IsCallBelow IsCallOrExtendBelow or_extend b x y own
+
+  pub own_or_blank : (b : ℕ) (x y : R) → CallsBelow rack b x y → MadeBelow rack IsCallOrBlankBelow b x y
+  own_or_blank b x y own = own_such IsCallBelow IsCallOrBlankBelow or_blank b x y own
 
   -- members that are called in the end weren't out before
   pub called_both : (f g : ℕ → ℕ) (x y : ℕ → MemberState) (a b c : R) → MembersFall f g x y → Makes rack (IsCallOf x) a b → Makes rack (IsCallOf y) b c → Makes rack (IsCallOf x) a c
@@ -194,6 +226,9 @@ module _ {R : Type 0} (rack : Ghosts R) where
 
   pub stays_or_extend : (a b : Store R) → Stays rack a b → StaysBy rack IsCallOrExtendBelow a b
   stays_or_extend a b stays = record { shape = stays.shape; stays = stays.stays; own = own_or_extend (shape_of a).b (rack_of a) (rack_of b) stays.own }
+
+  pub stays_or_blank : (a b : Store R) → Stays rack a b → StaysBy rack IsCallOrBlankBelow a b
+  stays_or_blank a b stays = record { shape = stays.shape; stays = stays.stays; own = own_or_blank (shape_of a).b (rack_of a) (rack_of b) stays.own }
 
   pub stays_both : {may : ℕ → RackCall → Type 0} (a b c : Store R) → StaysBy rack may a b → StaysBy rack may b c → StaysBy rack may a c
   stays_both a b c first second = record {

@@ -11,7 +11,7 @@ ghost use Rattle.dg_model.specs.Tables.{Table, IsTable, count_on, sites_in, used
 ghost use Rattle.dg_pair.specs.Boundaries.{IsWell, completed, number_of, members_of as boundary_members, raised, unfilled};
 ghost use Rattle.dg_pair.specs.Calls.{KeepsBeside, copied, replaced};
 ghost use Rattle.dg_store.specs.Answers.{ChangesAt, HasAllSlots, HasFreeSlot, HasNextSlot, IsAllLost, IsBlankStore, IsFull, IsPlaced, IsStored, IsUnchanged, SameWritten, reaped};
-ghost use Rattle.dg_store.specs.Leaves.{BytesChange, CallsAtMost, CallsThoseIn, ExtendsThoseIn, FaultRose, HasCalled, HasWritten, IsCallOrExtendBelow, KeepsOut, Leaves};
+ghost use Rattle.dg_store.specs.Leaves.{BytesChange, CallsAtMost, CallsThoseIn, ExtendsThoseIn, FaultRose, HasCalled, HasWritten, IsCallOrBlankBelow, IsCallOrExtendBelow, KeepsOut, Leaves};
 ghost use Rattle.dg_store.specs.Leaves.{NoFault, OnlyBytesOf, OnlyFaultsOf, PutsOut, Stays, StaysBy};
 ghost use Rattle.dg_store.specs.Rows.{IsRow, members_in};
 ghost use Rattle.dg_store.specs.Slots.{PutsBlock, SitesTell};
@@ -343,7 +343,7 @@ impl<R: Rack> Store<R> {
         requires side { side < 2 }
         requires size { length_of 1 (shape_of self.old) ≤ size }
         ensures sound { IsSound R.Rack self.new }
-        ensures stays { Stays R.Rack self.old self.new }
+        ensures stays { StaysBy R.Rack IsCallOrBlankBelow self.old self.new }
         ensures faulty { PutsOut R.Rack self.old self.new }
         ensures table { table_of self.new ≡ table_of self.old }
         ensures lost { (result ≡ ReplaceAnswer.Lost) ↔ (is_lost (members_of self.old) boundary ≡ true) }

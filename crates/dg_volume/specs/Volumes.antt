@@ -23,7 +23,7 @@ use Rattle.dg_model.specs.declared.phases.Phase.TheVariants.{Loose as LoosePhase
 use Rattle.dg_model.specs.declared.replies.Reply.{Reply}
 use Rattle.dg_model.specs.declared.shapes.Shape.{Shape}
 use Rattle.dg_model.specs.declared.wants.Want.{Want}
-use Rattle.dg_store.specs.Leaves.{CallsBelow, IsCallBelow, MadeBelow}
+use Rattle.dg_store.specs.Leaves.{IsCallBelow, IsCallOrBlankBelow, MadeBelow}
 use Rattle.dg_store.specs.Stores.{IsSound, TellsAll}
 use Rattle.dg_store.specs.Stores as stores
 use Rattle.dg_volume.specs.Origins.{Always, Origin, WasHeld}
@@ -207,7 +207,7 @@ pub record LeavesBy {S T R : Type 0} (from : phases.Ghosts S) (to : phases.Ghost
   pub own : MadeBelow rack may (shape_of old).b (rack_of old) (rack_of new)
   pub same_rack : rack.name (rack_of new) ≡ rack.name (rack_of old)
 
--- what any call leaves that extends no member
+-- what any call leaves that neither makes a member anew nor extends one
 abbrev pub Leaves : {S T R : Type 0} → phases.Ghosts S → phases.Ghosts T → Ghosts R → Volume S R → Volume T R → Type 0
 Leaves from to rack old new = LeavesBy from to rack IsCallBelow old new
 
@@ -241,7 +241,7 @@ pub record IsBlankVolume {R : Type 0} (rack : Ghosts R) (shape : Shape) (before 
   pub shape_is : shape_of volume ≡ shape
   pub tells : StillTold (rack.bytes before) (rack.bytes (rack_of volume))
   pub told_before : (q : ℕ) → rack.tells (rack_of volume) q → rack.tells before q
-  pub own : CallsBelow rack shape.b before (rack_of volume)
+  pub own : MadeBelow rack IsCallOrBlankBelow shape.b before (rack_of volume)
   pub same_rack : rack.name (rack_of volume) ≡ rack.name before
   pub state : State
   pub blank : IsBlank shape (rack.counts before) state

@@ -13,4 +13,6 @@ returns-clause-made g c = record {
   rise = λ q. omega arith;
   others = λ q each. refl;
   writes = omega arith;
+  same_refused = λ each q. refl;
+  same_writes = λ each. refl;
 }

@@ -5,4 +5,4 @@ use Rattle.dg_regroup.proofs.front_racks.FrontRackRack.extend.Goals as goal
 
 pub returns-clause-made : goal.returns-clause-made
 returns-clause-made g c =
-    passed_as g.R.Rack (extends c.args.member) (extends c.args.member) (inl refl) c.args.self.now _ refl refl (λ q. omega arith) (λ q far. refl) (omega arith) c.extend.ensures.made
+    passed_as g.R.Rack (extends c.args.member) (extends c.args.member) (inl refl) c.args.self.now _ refl refl (λ q. omega arith) (λ q far. refl) (omega arith) (λ is. refl) (λ is. refl) c.extend.ensures.made

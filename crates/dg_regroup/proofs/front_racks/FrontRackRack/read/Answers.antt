@@ -18,4 +18,4 @@ returns-clause-ok g c =
 
 pub returns-clause-made : goal.returns-clause-made
 returns-clause-made g c =
-    passed_as g.R.Rack (calls c.args.member) (calls c.args.member) refl c.args.self.now _ refl refl (λ q. omega arith) (λ q far. refl) (omega arith) c.read.ensures.made
+    passed_as g.R.Rack (calls c.args.member) (calls c.args.member) refl c.args.self.now _ refl refl (λ q. omega arith) (λ q far. refl) (omega arith) (λ is. refl) (λ is. refl) c.read.ensures.made

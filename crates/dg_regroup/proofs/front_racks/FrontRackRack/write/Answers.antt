@@ -35,4 +35,4 @@ returns-clause-whole g c =
 
 pub returns-clause-made : goal.returns-clause-made
 returns-clause-made g c =
-    passed_as g.R.Rack (calls c.args.member) (calls c.args.member) refl c.args.self.now _ refl refl (λ q. omega arith) (λ q far. refl) (omega arith) c.write.ensures.made
+    passed_as g.R.Rack (calls c.args.member) (calls c.args.member) refl c.args.self.now _ refl refl (λ q. omega arith) (λ q far. refl) (omega arith) (λ is. refl) (λ is. refl) c.write.ensures.made
