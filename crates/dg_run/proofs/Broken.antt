@@ -25,7 +25,7 @@ use Rattle.dg_run.specs.Inputs.{AwaitsLine, BeginsWithLine}
 use Rattle.dg_run.specs.Replays.{BrokeOff, CutRefusal, CutReply, IsCut, RanOut, RanOutBefore, RanOutBehind, RanOutWithin, StopsAt, TellsBoundaries, WantsFirst}
 use Rattle.dg_run.specs.Histories.{Continues, IsBlankReady, KnownBy, VolumeRunsTo, below_of, boundaries_of, moment_of}
 use Rattle.dg_run.specs.Steps.{shape_of}
-use Rattle.dg_run.proofs.Happening.{history_less, weaker_runs}
+use Rattle.dg_run.proofs.Happening.{history_less, makes_less, weaker_runs}
 use Rattle.dg_run.proofs.Runs.{no_runs}
 use Rattle.dg_volume.specs.Origins.{Always}
 use Rattle.dg_volume.specs.Origins.Origin.{nothing}
@@ -186,7 +186,7 @@ module _ {R : Type 0} (ghosts : Ghosts R) (none : (s : R) → ghosts.made s [] s
         in_place = (well, subst (λ (s : Shape). All (IsInPlace (Some s)) lines.events) (same_shape ghosts none both law shape first rack a b is well blank goes) lines.in_place);
         budget = omega (arith, length-append (line_of (MakeArray shape)) (input_of lines.events), lines.budget, is);
         final = W.0;
-        history = (start, blank.makes, history_less (told_in W.0.state W.1) plain start lines.events lines.replies W.0 W.2);
+        history = (start, makes_less (λ k. tt) blank.makes, history_less (told_in W.0.state W.1) plain start lines.events lines.replies W.0 W.2);
         input = awaits_more lines.events text left rest line lines.input;
         output = lines.output;
       }
@@ -205,7 +205,7 @@ module _ {R : Type 0} (ghosts : Ghosts R) (none : (s : R) → ghosts.made s [] s
         in_place = (well, subst (λ (s : Shape). All (IsInPlace (Some s)) events) (same_shape ghosts none both law shape first rack a b is well blank goes) lines.in_place);
         budget = omega (arith, length-append (line_of (MakeArray shape)) (input_of events), lines.budget, is);
         final = W.0;
-        history = (start, blank.makes, history_less (told_in W.0.state W.1) plain start events lines.replies W.0 W.2);
+        history = (start, makes_less (λ k. tt) blank.makes, history_less (told_in W.0.state W.1) plain start events lines.replies W.0 W.2);
         input = starts_more shape events text left rest line lines.input;
         output = lines.output;
       }
@@ -227,7 +227,7 @@ module _ {R : Type 0} (ghosts : Ghosts R) (none : (s : R) → ghosts.made s [] s
         in_place = (well, subst (λ (s : Shape). All (IsInPlace (Some s)) events) (same_shape ghosts none both law shape first rack a b is well blank goes) lines.in_place);
         budget = omega (arith, length-append (line_of (MakeArray shape)) (input_of events), lines.budget, is);
         final = W.0;
-        history = (start, blank.makes, history_less (told_in W.0.state W.1) plain start events replies W.0 W.2);
+        history = (start, makes_less (λ k. tt) blank.makes, history_less (told_in W.0.state W.1) plain start events replies W.0 W.2);
         input = starts_more shape events text left rest line lines.input;
         output = took_again (output_of lines.replies) lines.text taken given lines.output;
       }

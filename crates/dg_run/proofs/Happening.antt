@@ -5,16 +5,18 @@ use Rattle.dg_io.specs.RackCalls.{RackCall}
 use Rattle.dg_io.specs.RackWords.{After}
 use Rattle.dg_io.specs.declared.outside.Rack.{Ghosts}
 use Rattle.dg_model.proofs.KnownLaws.{step_less}
+use Rattle.dg_model.proofs.MomentLaws.{tied_less}
 use Rattle.std.proofs.lemmas.List.FromFn.{get_or-range_with_len, length-range_with_len}
 use Rattle.dg_model.specs.Lives.{all_live, member_at}
-use Rattle.dg_model.specs.Moments.{AreCountsOf, Happens, History, IsAllowed, Kind, Moment}
+use Rattle.dg_model.specs.Moments.{AreCountsOf, Happens, History, IsAllowed, Kind, Makes, Moment}
 use Rattle.dg_model.specs.Moments.Kind.{plain}
-use Rattle.dg_model.specs.States.{State}
+use Rattle.dg_model.specs.States.{Counts, State}
 use Rattle.dg_model.specs.Steps.{IsReduced, Step}
 use Rattle.dg_model.specs.declared.events.Event.{Event}
 use Rattle.dg_model.specs.declared.events.Event.TheVariants.{Array, Safe, Parity, Write, Read, Fail, Replace, Rebuild, Settle, Tend, Diffuse, Who, Pending, Cat, Ls, Tree, Home, Save, Regroup, LostFiles, Audit, DropDisk, MendDisk}
 use Rattle.dg_model.specs.declared.replies.Reply.{Reply}
 use Rattle.dg_model.specs.declared.replies.Reply.TheVariants.{Lost, NotParity, Saved}
+use Rattle.dg_model.specs.declared.shapes.Shape.{Shape}
 use Rattle.dg_regroup.specs.LiveGhosts.{live}
 use Rattle.dg_regroup.specs.LiveRacks.{is_there, live_counts, live_in}
 use Rattle.dg_regroup.specs.declared.live_racks.LiveRack.{LiveRack}
@@ -25,7 +27,7 @@ use Rattle.dg_run.specs.Plain.{IsOfPairs}
 use Rattle.dg_run.specs.Replays.{HoldsInUse}
 use Rattle.dg_run.specs.Steps.{Answered, AnsweredBefore, AnsweredPart, Known, ListedBefore, StandsIn, StepsTo, VolumeStepsTo, WantedFor, rack_of}
 use Rattle.dg_run.specs.declared.arrays.Array as arrays
-use Rattle.dg_store.specs.Leaves.{IsCallOrExtendBelow}
+use Rattle.dg_store.specs.Leaves.{IsAnyCallBelow}
 use Rattle.dg_volume.specs.HeldLaws.{holds_all}
 use Rattle.dg_volume.specs.Volumes.{any_phase}
 use Rattle.dg_volume.specs.Volumes as volumes
@@ -33,7 +35,7 @@ use Rattle.dg_volume.specs.Volumes as volumes
 -- ---- what a history takes over
 
 pub happens_less : {K J : Type 0} (w : J → K) (kind : Kind) (old : Moment) (event : Event) (reply : Reply) (new : Moment) → Happens K kind old event reply new → Happens J kind old event reply new
-happens_less w kind old event reply new h = record { step = step_less w old.state event reply new.state h.step; allowed = h.allowed; rise = h.rise; tied = h.tied }
+happens_less w kind old event reply new h = record { step = step_less w old.state event reply new.state h.step; allowed = h.allowed; rise = h.rise; tied = tied_less w kind event old new h.tied }
 
 pub history_less : {K J : Type 0} (w : J → K) (kind : Kind) (old : Moment) (events : List Event) (replies : List Reply) (new : Moment) → History K kind old events replies new
     → History J kind old events replies new
@@ -48,6 +50,16 @@ history_both K kind old [] [] mid more others new first second = subst (λ (m : 
 history_both K kind old [] (reply ∷ replies) mid more others new first second = absurd first
 history_both K kind old (event ∷ events) [] mid more others new first second = absurd first
 history_both K kind old (event ∷ events) (reply ∷ replies) mid more others new first second = (first.0, first.1, history_both K kind first.0 events replies mid more others new first.2 second)
+
+pub makes_less : {K J : Type 0} {kind : Kind} {event : Event} {shape : Shape} {before : Counts} {blank : Moment} → (J → K) → Makes K kind event shape before blank
+    → Makes J kind event shape before blank
+makes_less {kind = kind} {event = event} {before = before} {blank = blank} w h = record {
+  first = h.first;
+  is_blank = h.is_blank;
+  begun = h.begun;
+  rise = h.rise;
+  tied = tied_less w kind event (record { state = record blank.state { counts = h.first }; beneath = record { counts = before; out = λ d. false } }) blank h.tied;
+}
 
 -- ---- what mirrored pairs answer
 
@@ -129,7 +141,7 @@ module _ {R : Type 0} (rack : Ghosts R) (none : (s : R) → rack.made s [] s) (b
   happens a b event reply state next goes stands allowed step = record {
     step = step;
     allowed = allowed;
-    rise = rises rack none both law (IsCallOrExtendBelow (boundaries_of a)) (below_of a) (below_of b) goes.made;
+    rise = rises rack none both law (IsAnyCallBelow (boundaries_of a)) (below_of a) (below_of b) goes.made;
     tied = tied_in b next goes.ready stands;
   }
 

@@ -48,7 +48,7 @@ use Rattle.dg_run.specs.declared.top.Status.TheVariants.{NoState, Unclean, Write
 use Rattle.dg_saved.specs.OpeningLaws.{had_less, next_less, reopened_on}
 use Rattle.dg_saved.specs.Saved.{FoundNoState, FoundUnclean, HasLooked, HasSource, IsKnown, IsOpenedAs, OthersKept, TellsArray, had}
 use Rattle.dg_saved.specs.Texts.{nostate_text, unclean_text}
-use Rattle.dg_store.specs.Leaves.{IsCallOrExtendBelow}
+use Rattle.dg_store.specs.Leaves.{IsAnyCallBelow}
 use Rattle.dg_volume.specs.Opens.{HasOpened}
 use Rattle.dg_volume.specs.Opens as openings
 use Rattle.dg_volume.specs.Origins.{Origin, WasHeld}
@@ -403,10 +403,10 @@ module _ {R : Type 0} (rack : Ghosts R) (none : (s : R) → rack.made s [] s) (b
     }
 
     pub name_then : rack.name (below_of b) ≡ rack.name (rack_in start)
-    name_then = same_name rack none both law (IsCallOrExtendBelow (boundaries_of a)) (below_of a) (below_of b) goes.made ∙ name_first rack none both law start (rack_of a) begun
+    name_then = same_name rack none both law (IsAnyCallBelow (boundaries_of a)) (below_of a) (below_of b) goes.made ∙ name_first rack none both law start (rack_of a) begun
 
     pub rise : CountsRise (rack.counts (below_of a)) (rack.counts (below_of b))
-    rise = rises rack none both law (IsCallOrExtendBelow (boundaries_of a)) (below_of a) (below_of b) goes.made
+    rise = rises rack none both law (IsAnyCallBelow (boundaries_of a)) (below_of a) (below_of b) goes.made
 
     -- the members behind the array's own were left alone
     pub others : OthersKept (met_by met) opened.saved.table

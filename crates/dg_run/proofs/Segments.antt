@@ -18,7 +18,7 @@ use Rattle.dg_regroup.specs.LiveMade.{call_below, is_passed}
 use Rattle.dg_regroup.specs.LivePassing.{own_calls, own_writes, passes_on}
 use Rattle.dg_regroup.specs.LiveRacks.{is_there, live_in, rack_in}
 use Rattle.dg_regroup.specs.declared.live_racks.LiveRack.{LiveRack}
-use Rattle.dg_store.specs.Leaves.{IsCallOrExtendBelow}
+use Rattle.dg_store.specs.Leaves.{IsAnyCallBelow}
 
 -- a number stands in a list, or nowhere
 find_number : (numbers : List ℕ) (s : ℕ) → ((x : ℕ) × (x < length numbers) × (slice_index numbers x ≡ s)) ⊎ ((x : ℕ) → x < length numbers → slice_index numbers x ≢ s)
@@ -51,7 +51,7 @@ there_by numbers q low = grind (arith, nat_tests)
 half : (n q : ℕ) → (2 * n + q % 2) / 2 ≡ n
 half n q = omega arith
 
-among_below : (numbers : List ℕ) (bound : ℕ) → All (λ s. s < bound) numbers → (call : RackCall) → IsCallAmong numbers call → IsCallOrExtendBelow bound call
+among_below : (numbers : List ℕ) (bound : ℕ) → All (λ s. s < bound) numbers → (call : RackCall) → IsCallAmong numbers call → IsAnyCallBelow bound call
 among_below numbers bound low (looks p) h = absurd h
 among_below numbers bound low (blanks p) h =
     let less : slice_index numbers (h.0 / 2) < bound = All-get_or (λ s. s < bound) numbers (h.0 / 2) 0 h.1 low in
@@ -84,14 +84,14 @@ pub record Begins {R : Type 0} (numbers : List ℕ) (x : LiveRack R) : Type 0 wh
 -- what calls on their members leave of the rack below, all of whose boundaries are below a number
 pub record Segment {R : Type 0} (rack : Ghosts R) (bound : ℕ) (x y : LiveRack R) : Type 0 where
   pub live_is : live_in y ≡ live_in x
-  pub made : Makes rack (IsCallOrExtendBelow bound) (rack_in x) (rack_in y)
+  pub made : Makes rack (IsAnyCallBelow bound) (rack_in x) (rack_in y)
   pub tells : StillTold (rack.bytes (rack_in x)) (rack.bytes (rack_in y))
   pub calls : own_calls y ≡ own_calls x
   pub writes : own_writes y ≡ own_writes x
 
 module _ {R : Type 0} (rack : Ghosts R) (none : (s : R) → rack.made s [] s) (both : (a b c : R) (x y : List RackCall) → rack.made a x b → rack.made b y c → rack.made a (x ++ y) c)
     (law : (a b : R) (made : List RackCall) → rack.made a made b → After rack made a b) where
-  there : (numbers : List ℕ) (x : LiveRack R) → Begins numbers x → (call : RackCall) → IsCallOrExtendBelow (length numbers) call → is_passed (live_in x) call ≡ true
+  there : (numbers : List ℕ) (x : LiveRack R) → Begins numbers x → (call : RackCall) → IsAnyCallBelow (length numbers) call → is_passed (live_in x) call ≡ true
   there numbers x begins (looks q) low = absurd low
   there numbers x begins (blanks q) low = let longer = begins.longer in grind (arith, nat_tests)
   there numbers x begins (calls q) low = let longer = begins.longer in grind (arith, nat_tests)
@@ -100,7 +100,7 @@ module _ {R : Type 0} (rack : Ghosts R) (none : (s : R) → rack.made s [] s) (b
   same_number : (numbers : List ℕ) (x : LiveRack R) → Begins numbers x → (q : ℕ) → q / 2 < length numbers → member_at (live_in x) q ≡ member_at numbers q
   same_number numbers x begins q low = ap (λ (n : ℕ). 2 * n + q % 2) (begins.places (q / 2) low)
 
-  among : (numbers : List ℕ) (x : LiveRack R) → Begins numbers x → (call : RackCall) → IsCallOrExtendBelow (length numbers) call → IsCallAmong numbers (call_below (live_in x) call)
+  among : (numbers : List ℕ) (x : LiveRack R) → Begins numbers x → (call : RackCall) → IsAnyCallBelow (length numbers) call → IsCallAmong numbers (call_below (live_in x) call)
   among numbers x begins (looks q) low = absurd low
   among numbers x begins (blanks q) low = (q, low, same_number numbers x begins q low)
   among numbers x begins (calls q) low = (q, low, same_number numbers x begins q low)
@@ -131,13 +131,13 @@ module _ {R : Type 0} (rack : Ghosts R) (none : (s : R) → rack.made s [] s) (b
         let after = law (rack_in x) (rack_in y) whole.calls whole.made in
         told_same _ _ (after.other_bytes p (each_such (IsCallAmong numbers) (IsNotOn p) (among_not numbers p absent) whole.calls whole.each)) told
 
-  pub segment : (numbers : List ℕ) (bound : ℕ) (x y : LiveRack R) → Begins numbers x → All (λ s. s < bound) numbers → Makes (live rack) (IsCallOrExtendBelow (length numbers)) x y
+  pub segment : (numbers : List ℕ) (bound : ℕ) (x y : LiveRack R) → Begins numbers x → All (λ s. s < bound) numbers → Makes (live rack) (IsAnyCallBelow (length numbers)) x y
       → StillTold ((live rack).bytes x) ((live rack).bytes y) → Segment rack bound x y
   segment numbers bound x y begins low made tells =
-      let passed = passes_on rack (IsCallOrExtendBelow (length numbers)) (IsCallAmong numbers) x y (there numbers x begins) (among numbers x begins) made in
+      let passed = passes_on rack (IsAnyCallBelow (length numbers)) (IsCallAmong numbers) x y (there numbers x begins) (among numbers x begins) made in
       record {
         live_is = passed.live_is;
-        made = makes_such rack (IsCallAmong numbers) (IsCallOrExtendBelow bound) (among_below numbers bound low) (rack_in x) (rack_in y) passed.below;
+        made = makes_such rack (IsCallAmong numbers) (IsAnyCallBelow bound) (among_below numbers bound low) (rack_in x) (rack_in y) passed.below;
         tells = tells_below numbers x y begins passed.live_is passed.below tells;
         calls = passed.calls;
         writes = passed.writes;

@@ -14,10 +14,10 @@ use Rattle.dg_io.specs.RackWords.{After}
 use Rattle.dg_io.specs.declared.outside.Rack.{Ghosts}
 use Rattle.dg_regroup.specs.declared.live_racks.LiveRack.{LiveRack}
 use Rattle.dg_run.proofs.Continuing.{others_counts, others_same}
-use Rattle.dg_run.proofs.Happening.{history_less, holds_in_use, weaker_runs}
+use Rattle.dg_run.proofs.Happening.{history_less, holds_in_use, makes_less, weaker_runs}
 use Rattle.dg_run.specs.Histories.{Continues, IsBlankReady, KnownBy, VolumeRunsTo, below_of, boundaries_of, moment_of}
 use Rattle.dg_run.specs.Steps.{shape_of}
-use Rattle.dg_store.specs.Leaves.{IsCallOrExtendBelow}
+use Rattle.dg_store.specs.Leaves.{IsAnyCallBelow}
 use Rattle.dg_model.specs.declared.shapes.Shape.{Shape}
 use Rattle.dg_model.specs.declared.events.Event.{Event}
 use Rattle.dg_model.specs.declared.events.Event.TheVariants.{Array as MakeArray}
@@ -59,9 +59,9 @@ module _ {R : Type 0} (ghosts : Ghosts R) (none : (s : R) → ghosts.made s [] s
   same_shape = blank.shape_is
 
   -- the calls from the first line on
-  pub made_all : Makes ghosts (IsCallOrExtendBelow shape.b) rack (below_of b)
-  made_all = makes_both ghosts (IsCallOrExtendBelow shape.b) rack (below_of a) (below_of b) blank.made
-      (subst (λ (n : ℕ). Makes ghosts (IsCallOrExtendBelow n) (below_of a) (below_of b)) blank.boundaries goes.made)
+  pub made_all : Makes ghosts (IsAnyCallBelow shape.b) rack (below_of b)
+  made_all = makes_both ghosts (IsAnyCallBelow shape.b) rack (below_of a) (below_of b) blank.made
+      (subst (λ (n : ℕ). Makes ghosts (IsAnyCallBelow n) (below_of a) (below_of b)) blank.boundaries goes.made)
 
   -- the members behind the first line's boundaries were left alone
   others_kept : OthersKept (boundaries_of b) (ghosts.counts rack) (ghosts.counts (below_of b)) (ghosts.bytes rack) (ghosts.bytes (below_of b))
@@ -84,7 +84,7 @@ module _ {R : Type 0} (ghosts : Ghosts R) (none : (s : R) → ghosts.made s [] s
         in_place = (well, subst (λ (s : Shape). All (IsInPlace (Some s)) events) same_shape placed);
         budget = omega (arith, length-append (line_of (MakeArray shape)) (input_of events));
         final = final;
-        history = (moment_of ghosts a blank.state, blank.makes, history_less known plain (moment_of ghosts a blank.state) events replies final W.history);
+        history = (moment_of ghosts a blank.state, makes_less (λ k. tt) blank.makes, history_less known plain (moment_of ghosts a blank.state) events replies final W.history);
         holds = λ told. holds_in_use ghosts none both law b W.next goes.ready W.stands (let k = known told in (k.0, W.known k.0 k.1));
         others = subst (λ (n : ℕ). OthersKept n (ghosts.counts rack) (ghosts.counts (below_of b)) (ghosts.bytes rack) (ghosts.bytes (below_of b))) (sym line) others_kept;
         counts = refl;

@@ -17,7 +17,7 @@ use Rattle.dg_regroup.specs.LiveRacks.{live_in, rack_in}
 use Rattle.dg_regroup.specs.declared.live_racks.LiveRack.{LiveRack}
 use Rattle.dg_run.specs.Steps.{BeginsLines, IsSound, NotesFile, StandsIn, rack_of, shape_of}
 use Rattle.dg_run.specs.declared.arrays.Array.{Array}
-use Rattle.dg_store.specs.Leaves.{IsCallOrExtendBelow}
+use Rattle.dg_store.specs.Leaves.{IsAnyCallBelow}
 use Rattle.dg_text.specs.Replies.{reply_line}
 use Rattle.dg_volume.specs.Origins.{Origin, WasHeld}
 use Rattle.dg_volume.specs.Origins.Origin.{nothing}
@@ -62,7 +62,7 @@ pub record Continues {R : Type 0} (rack : Ghosts R) (old new : Array (LiveRack R
   pub ready : IsReady rack new
   pub line : volumes.line_of new.volume ≡ volumes.line_of old.volume
   pub boundaries : boundaries_of new ≡ boundaries_of old
-  pub made : Makes rack (IsCallOrExtendBelow (boundaries_of old)) (below_of old) (below_of new)
+  pub made : Makes rack (IsAnyCallBelow (boundaries_of old)) (below_of old) (below_of new)
   pub tells : StillTold (rack.bytes (below_of old)) (rack.bytes (below_of new))
 
 -- ---- moments
@@ -138,8 +138,8 @@ pub record IsBlankReady {R : Type 0} (rack : Ghosts R) (shape : Shape) (before :
   pub ready : IsReady rack array
   pub shape_is : shape_of array ≡ shape
   pub boundaries : boundaries_of array ≡ shape.b
-  pub made : Makes rack (IsCallOrExtendBelow shape.b) before (below_of array)
+  pub made : Makes rack (IsAnyCallBelow shape.b) before (below_of array)
   pub tells : StillTold (rack.bytes before) (rack.bytes (below_of array))
   pub state : State
-  pub makes : MakesArray plain (MakeArray shape) shape (rack.counts before) (moment_of rack array state)
+  pub makes : MakesArray (Unit {0}) plain (MakeArray shape) shape (rack.counts before) (moment_of rack array state)
   pub stands : StandsIn (live rack) (WasHeld (live rack) nothing) array state
