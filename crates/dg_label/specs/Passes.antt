@@ -35,7 +35,7 @@ pub record PassesBy {R : Type 0} (rack : Ghosts R) (may : ℕ → RackCall → T
   pub stay_good : (q : ℕ) → first ≤ q → is_good (members_of old q) ≡ true → is_good (members_of new q) ≡ true
   pub most : CallsAtMost rack old new first
 
--- the same where no member is extended
+-- the same where members are read and written alone
 abbrev pub Touches : {R : Type 0} → Ghosts R → ℕ → (List ℕ → List ℕ → Type 0) → Store R → Store R → Type 0
 Touches rack q change old new = TouchesBy rack IsCallBelow q change old new
 

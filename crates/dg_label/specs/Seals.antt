@@ -34,7 +34,7 @@ pub record KeepsArrayBy {R : Type 0} (rack : Ghosts R) (may : ℕ → RackCall �
   pub falls : MembersFall (rack.counts (rack_of old)).faults (rack.counts (rack_of new)).faults (members_of old) (members_of new)
   pub stands : KeepsBlocks rack old new
 
--- the same where no member is extended
+-- the same where members are read and written alone
 abbrev pub KeepsArray : {R : Type 0} → Ghosts R → Store R → Store R → Type 0
 KeepsArray rack old new = KeepsArrayBy rack IsCallBelow old new
 
