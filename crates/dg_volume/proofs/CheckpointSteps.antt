@@ -55,7 +55,7 @@ module _ {S R : Type 0} (phase : phases.Ghosts S) (rack : Ghosts R) where
   pub steps_kept : (room : R → Option ℕ) (goes : R → R → Type 0) (extra : List ℕ) (answer : CommitAnswer) (hot : List ℕ) (sequence : ℕ) (a m : Volume S R) (store : Store R) → IsWell phase rack m
       → CommitsArray rack room goes extra answer m.store store → StepsHot phase phase rack hot a Save (Saved sequence) m → HasGood store
       → StepsHot phase phase rack hot a Save (Saved sequence) (record m { store = store })
-  steps_kept room extra answer hot sequence a m store well h steps good origin state st recent =
+  steps_kept room goes extra answer hot sequence a m store well h steps good origin state st recent =
       let go = steps origin state st recent in (
         committed rack (record m { store = store }) go.0 (option_map (left_on (stores.members_of store)) go.0.label),
         left_at phase rack room goes extra answer m store h origin go.0 go.1,
