@@ -5,7 +5,7 @@ use Rattle.dg_io.specs.Disks.{no_disks}
 use Rattle.dg_io.specs.Kept.{HasAnother, IsNothing, Kept, KeepsRest}
 use Rattle.dg_io.specs.MadeLaws.{disks_same}
 use Rattle.dg_io.specs.Makes.{Makes}
-use Rattle.dg_io.specs.Makes.Makes.{nothing, after}
+use Rattle.dg_io.specs.Makes.Makes.{nothing as made_nothing, after as made_after}
 use Rattle.dg_io.specs.RackCalls.{RackCall}
 use Rattle.dg_io.specs.RackWords.{After, Leaves}
 use Rattle.dg_io.specs.declared.outside.Rack.{Ghosts}
@@ -139,8 +139,8 @@ shaped_by rack (OfGroups a) (OfGroups b) calls is = record { width = ap Some is.
 -- Whatever calls were made. `words` is what such a rack means as a rack.
 pub shape_stays : {R : Type 0} (rack : Ghosts R) (words : Ghosts (ParityRack R)) → ((a b : ParityRack R) (calls : List RackCall) → words.made a calls b → ParityMade rack a calls b)
     → (may : RackCall → Type 0) (a b : ParityRack R) → Makes words may a b → IsShaped a b
-shape_stays rack words means may a b (nothing same) = record { width = ap width_in same; groups = ap groups_in same }
-shape_stays rack words means may a b (after {b = mid} first only) =
+shape_stays rack words means may a b (made_nothing same) = record { width = ap width_in same; groups = ap groups_in same }
+shape_stays rack words means may a b (made_after {b = mid} first only) =
     let was = shape_stays rack words means may a mid first in
     let now = shaped_by rack mid b only.calls (means mid b only.calls only.made).by in
     record { width = now.width ∙ was.width; groups = now.groups ∙ was.groups }
