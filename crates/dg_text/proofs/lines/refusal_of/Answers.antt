@@ -4,8 +4,7 @@ use Rattle.std.specs.Option.{option_copied}
 use Rattle.dg_model.specs.declared.shapes.Shape.{Shape}
 use Rattle.dg_text.specs.Refusals.{Begins, IsNumberWord, IsOutOfOrder, count_of, word_of, words, words_behind}
 use Rattle.dg_text.specs.declared.kinds.EventKind.{EventKind}
-use Rattle.dg_text.specs.declared.kinds.EventKind.TheVariants.{Array}
-use Rattle.dg_text.proofs.Decisions.{is_kind, wrong_form}
+use Rattle.dg_text.proofs.Decisions.{wrong_form}
 use Rattle.dg_text.proofs.Reasons.{IsFormed, by_order, by_form, by_number, left_limits, left_hex, left_path}
 use Rattle.dg_text.proofs.lines.refusal_of.Goals as goal
 
@@ -59,7 +58,7 @@ returns-in-Nothing c =
     let form = formed shape line b c.is_out_of_order.result c.has_words.result c.words.result c.is_out_of_order.ensures.1 c.if-is_out_of_order.false c.words.ensures
     c.has_words.ensures.0 c.if-not-has_words.false in
     let numbers = subst (λ n. All IsNumberWord (take n later)) c.numbers.ensures (c.begins_with_numbers.ensures.0 c.if-not-begins_with_numbers.false) in
-    left_limits shape line b form numbers c.requires (sym c.tail.ensures ∙ c.in-Nothing.is) (is_kind c.in-Some.kind Array)
+    left_limits shape line b form numbers c.requires (sym c.tail.ensures ∙ c.in-Nothing.is)
 
 pub returns-in-Bytes : goal.returns-in-Bytes
 returns-in-Bytes c =
