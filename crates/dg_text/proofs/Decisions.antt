@@ -13,7 +13,7 @@ use Rattle.dg_text.specs.Lines.{AreBytes, block_bytes, hex_word, path_word}
 use Rattle.ufs_model.specs.Paths.{is_path}
 use Rattle.dg_text.specs.Refusals.{AreWithinLimits, Begins, IsHexWord, IsNumberWord, IsOutOfOrder, IsPathWord, Reads, count_of, makes_array, numbers_of, tail_of, word_of, words}
 use Rattle.dg_text.specs.declared.kinds.EventKind.{EventKind}
-use Rattle.dg_text.specs.declared.kinds.EventKind.TheVariants.{Array, Safe}
+use Rattle.dg_text.specs.declared.kinds.EventKind.TheVariants.{Array, Safe, Parity}
 use Rattle.dg_text.specs.declared.kinds.Tail.{Tail}
 use Rattle.dg_text.specs.declared.kinds.Tail.TheVariants.{Nothing, Bytes, Path as PathTail}
 use Rattle.dg_text.proofs.EventWords.{IsRight, all_numbers, line_spelled}
@@ -214,6 +214,7 @@ keeps_limits l n b k m =
 within_limits : (kind : EventKind) (ns : List ℕ) → Decided (AreWithinLimits kind ns)
 within_limits Array (l ∷ n ∷ b ∷ k ∷ m ∷ []) = keeps_limits l n b k m
 within_limits Safe (l ∷ n ∷ b ∷ k ∷ m ∷ []) = keeps_limits l n b k m
+within_limits Parity (l ∷ n ∷ b ∷ k ∷ m ∷ d ∷ []) = both _ _ (keeps_limits l n b k m) (both (3 ≤ d) (d ≤ 8) (at_most 3 d) (at_most d 8))
 within_limits kind ns = inl tt
 
 -- ---- the reading
