@@ -18,11 +18,15 @@ pub trait Checkpoint: Rack {
     /// The room for extra bytes, or none of a plain rack.
     ghost room_of: { Self → Option ℕ };
 
+    /// What a commit may leave of it, beside its members.
+    ghost commits: { Self → Self → Type 0 };
+
     /// Keeps the bytes of the members whose bits are set, all of which stand, and the extra bytes.
     fn commit(&mut self, keep: u32, extra: &[u8]) -> CommitAnswer
         requires stand { (q : ℕ) → is_marked keep q ≡ true → Self.stands self.old q ≡ true }
         requires fits { IfSome (room_of self.old) (λ room. length extra.now ≤ room) }
-        ensures leaves { LeavesCommit Self.Rack room_of keep extra.now result self.old self.new };
+        ensures leaves { LeavesCommit Self.Rack room_of keep extra.now result self.old self.new }
+        ensures commits { commits self.old self.new };
 
     /// The room for extra bytes, or `None` of a plain rack.
     fn room(&self) -> Option<u32>
@@ -31,6 +35,8 @@ pub trait Checkpoint: Rack {
 
 impl<R: Checkpoint> Checkpoint for &mut R {
     ghost room_of = { λ r. R.room_of r.now };
+
+    ghost commits = { λ old new. R.commits old.now new.now };
 
     fn commit(&mut self, keep: u32, extra: &[u8]) -> CommitAnswer {
         (**self).commit(keep, extra)

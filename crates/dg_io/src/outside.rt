@@ -142,7 +142,7 @@ pub trait Rack {
         requires longer { IfSome (bytes self.old member) (FitsIn length) }
         ensures ok { OnOk result (Told (Extended length) (bytes self.old member) (bytes self.new member)) }
         ensures err { OnErr result (Told KeepsFront (bytes self.old member) (bytes self.new member)) }
-        ensures made { made self.old (RackCall.calls member ∷ []) self.new }
+        ensures made { made self.old (RackCall.extends member ∷ []) self.new }
         ensures leaves { LeavesRack name bytes counts stands steady member result self.old self.new }
         ensures writes { RoseByOne (counts self.old).writes (counts self.new).writes };
 

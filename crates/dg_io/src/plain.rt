@@ -1,10 +1,12 @@
 // The racks in memory are plain: they keep no checkpoint, and have no disks.
-ghost use Rattle.std.specs.Prelude.{None};
+ghost use Rattle.std.specs.Prelude.{◌≡◌, None};
 
 use crate::{Checkpoint, CommitAnswer, Disks, DropAnswer, MemRack, MendAnswer, SureRack};
 
 impl Checkpoint for MemRack {
     ghost room_of = { λ rack. None };
+
+    ghost commits = { λ old new. new ≡ old };
 
     fn commit(&mut self, _keep: u32, _extra: &[u8]) -> CommitAnswer {
         CommitAnswer::Committed {
@@ -38,6 +40,8 @@ impl Disks for MemRack {
 
 impl Checkpoint for SureRack {
     ghost room_of = { λ rack. None };
+
+    ghost commits = { λ old new. new ≡ old };
 
     fn commit(&mut self, _keep: u32, _extra: &[u8]) -> CommitAnswer {
         CommitAnswer::Committed {

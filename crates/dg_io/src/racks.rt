@@ -229,7 +229,7 @@ impl Rack for MemRack {
         ensures ok { OnOk result (Told (Extended length) (member_in self.old member) (member_in self.new member)) }
         ensures err { OnErr result (Told KeepsFront (member_in self.old member) (member_in self.new member)) }
         ensures leaves { LeavesRack name_in member_in counts_in stands_in steady_in member result self.old self.new }
-        ensures made { made_in self.old (RackCall.calls member ∷ []) self.new }
+        ensures made { made_in self.old (RackCall.extends member ∷ []) self.new }
         ensures writes { RoseByOne (counts_in self.old).writes (counts_in self.new).writes }
         ensures fails { IsErr result ↔ (IsListed self.old ⊎ (IsAbsent self.old member ⊎ (room_in self.old member < length))) }
         ensures there { (q : ℕ) → there_in self.new q ≡ there_in self.old q }
@@ -383,7 +383,7 @@ impl Rack for SureRack {
         ensures ok { OnOk result (Told (Extended length) (sure_member self.old member) (sure_member self.new member)) }
         ensures err { OnErr result (Told KeepsFront (sure_member self.old member) (sure_member self.new member)) }
         ensures leaves { LeavesRack sure_name sure_member sure_counts sure_stands sure_steady member result self.old self.new }
-        ensures made { sure_made self.old (RackCall.calls member ∷ []) self.new }
+        ensures made { sure_made self.old (RackCall.extends member ∷ []) self.new }
         ensures writes { RoseByOne (sure_counts self.old).writes (sure_counts self.new).writes }
         ensures tells { (tells_in self.new ≡ true)
             ↔ ((tells_in self.old ≡ true) × (sure_there_in self.old member ≡ true) × (length ≤ sure_room_in self.old member)) }

@@ -2,11 +2,12 @@
 use Rattle.std.proofs.Common.{◌≡◌, ◌≢◌, ◌∙◌, ℕ, true, false, List, inl, inr, refl, sym, ap, subst, arith}
 use Rattle.std.specs.Prelude.{◌↔◌, None, Option, Some}
 use Rattle.std.proofs.lemmas.Bool.{both_ways, cases_Bool, cases_eq}
+use Rattle.dg_io.specs.RackCalls.{RackCall}
 use Rattle.dg_io.specs.Told.{IsSame, Told}
 use Rattle.dg_io.specs.declared.outside.Rack.{Ghosts}
 use Rattle.dg_label.specs.Pages.{LeavesFallen, PageFails, page_of}
-use Rattle.dg_label.specs.Passes.{Passes, Touches}
-use Rattle.dg_label.specs.Seals.{KeepsArray}
+use Rattle.dg_label.specs.Passes.{PassesBy, TouchesBy}
+use Rattle.dg_label.specs.Seals.{KeepsArrayBy}
 use Rattle.dg_label.specs.declared.labels.KeptLabel.{KeptLabel}
 use Rattle.dg_label.proofs.PassLaws.{bad_stays, good_fills, good_or, same_as, then_told, told_same, told_then}
 use Rattle.dg_model.specs.Members.{IsStruck, is_good}
@@ -103,11 +104,11 @@ module _ {R : Type 0} (rack : Ghosts R) where
   }
 
   -- those that weren't good stay as they were
-  pub same_more : (a b c : Store R) → KeepsArray rack a b → ((q : ℕ) → is_good (members_of a q) ≡ false → BytesChange rack a b q IsSame)
+  pub same_more : {may : ℕ → RackCall → Type 0} (a b c : Store R) → KeepsArrayBy rack may a b → ((q : ℕ) → is_good (members_of a q) ≡ false → BytesChange rack a b q IsSame)
       → ((q : ℕ) → is_good (members_of b q) ≡ false → BytesChange rack b c q IsSame) → (q : ℕ) → is_good (members_of a q) ≡ false → BytesChange rack a c q IsSame
   same_more a b c keeps first next q bad = told_then IsSame _ _ _ (first q bad) (next q (bad_stays rack a b q keeps bad))
 
-  pub fallen_more : (fails change : ℕ → List ℕ → List ℕ → Type 0) (n : ℕ) (a b c : Store R) → Passes rack n change a b → Touches rack n (change n) b c
+  pub fallen_more : {may : ℕ → RackCall → Type 0} (fails change : ℕ → List ℕ → List ℕ → Type 0) (n : ℕ) (a b c : Store R) → PassesBy rack may n change a b → TouchesBy rack may n (change n) b c
       → LeavesFallen rack fails a b → LeavesFallen rack fails b c → LeavesFallen rack fails a c
   fallen_more fails change n a b c passes touches first next = record {
     fell = λ q good bad. elim (cases_Bool (is_good (members_of b q))) [

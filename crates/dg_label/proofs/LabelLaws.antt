@@ -2,6 +2,7 @@
 use Rattle.std.proofs.Common.{◌≡◌, ◌≢◌, ◌⊎◌, ◌∙◌, ◌<◌, ◌≤◌, ◌+◌, ◌*◌, ◌/◌, ◌%◌, ◌^◌, ◌&&◌, ◌||◌, ℕ, Bool, true, false, not, List, length, inl, inr, refl, sym, ap, subst, take, arith}
 use Rattle.std.specs.Prelude.{◌==◌, Err, IfOk, IfSome, None, Ok, Option, Result, Some, replicate, if◌then◌else◌}
 use Rattle.std.proofs.lemmas.Bool.{and_from, and_parts, both_ways, cases_Bool, cases_lt, false≢true, or_left}
+use Rattle.dg_io.specs.RackCalls.{RackCall}
 use Rattle.dg_io.specs.Told.{Extended, FitsIn, IsSame, Patched, Told}
 use Rattle.dg_io.specs.declared.outside.Rack.{Ghosts}
 use Rattle.dg_label.specs.Labels.{AreFresh, AreNumbers, AreNumbersOf, HasLength, IsLabeled, IsOfArray, StandsLabeled, is_long, is_sealed, next_number, unsealed}
@@ -9,8 +10,8 @@ use Rattle.dg_io.specs.Commits.{is_marked}
 use Rattle.dg_label.specs.Pages.{LeavesFallen, OpensMember, PageFails, numbered, page_of}
 use Rattle.dg_label.specs.LineLaws.{line_itself, line_on, numbers_fit, place_is, room_fits, seal_on}
 use Rattle.dg_label.specs.Lines.{IsLineOf}
-use Rattle.dg_label.specs.Passes.{AreWhole, FillingStay, HaveRoom, Passes, Touches}
-use Rattle.dg_label.specs.Seals.{HasGood, HasNoGood, KeepsArray, OpensMembers, OpensSeal, saved_label}
+use Rattle.dg_label.specs.Passes.{AreWhole, FillingStay, HaveRoom, Passes, PassesBy, TouchesBy}
+use Rattle.dg_label.specs.Seals.{HasGood, HasNoGood, KeepsArrayBy, OpensMembers, OpensSeal, saved_label}
 use Rattle.dg_label.specs.declared.labels.KeptLabel.{KeptLabel}
 use Rattle.dg_label.proofs.ByteLaws.{body_stays, body_there, extended_long, extended_none, front_there, label_long, patched_long}
 use Rattle.dg_label.proofs.PassLaws.{filling_bad, filling_kept, good_kept, good_or_filling, keeps_none, rest_is, stood_kept, told_is, told_same}
@@ -191,7 +192,7 @@ module _ {R : Type 0} (rack : Ghosts R) where
   filling_fresh line a label last sound stands q filling = stands.fresh q (filling_within a q sound filling) (filling_stands a q filling) (stands.filling q filling)
 
   -- so they have while their bytes stay
-  pub fresh_on : (a b : Store R) → KeepsArray rack a b → FillingStay rack a b → FillingFresh a → FillingFresh b
+  pub fresh_on : {may : ℕ → RackCall → Type 0} (a b : Store R) → KeepsArrayBy rack may a b → FillingStay rack a b → FillingFresh a → FillingFresh b
   fresh_on a b keeps stay fresh q filling =
       told_is (λ all. take 512 all ≡ zeros 512) (rack.bytes (rack_of a) q) (rack.bytes (rack_of b) q) (stay q filling) (fresh q (filling_kept rack a b q keeps filling))
 
@@ -232,8 +233,8 @@ module _ {R : Type 0} (rack : Ghosts R) where
       (whole q (good_stands a q good))
 
   -- what holds of the length of each member that stands, holds after such a pass that keeps lengths
-  lengths_stay : (P : ℕ → Type 0) (change : ℕ → List ℕ → List ℕ → Type 0) (Fits : ℕ → List ℕ → Type 0) (a b : Store R) → IsSound rack a
-      → Passes rack (2 * (shape_of a).b) change a b
+  lengths_stay : {may : ℕ → RackCall → Type 0} (P : ℕ → Type 0) (change : ℕ → List ℕ → List ℕ → Type 0) (Fits : ℕ → List ℕ → Type 0) (a b : Store R) → IsSound rack a
+      → PassesBy rack may (2 * (shape_of a).b) change a b
       → ((q : ℕ) (x y : List ℕ) → change q x y → Fits q x → length y ≡ length x)
       → ((q : ℕ) → is_good (members_of a q) ≡ true → IfSome (rack.bytes (rack_of a) q) (Fits q))
       → (q : ℕ) → members_of b q ≢ Out → IfSome (rack.bytes (rack_of a) q) (λ all. P (length all)) → IfSome (rack.bytes (rack_of b) q) (λ all. P (length all))
@@ -250,8 +251,8 @@ module _ {R : Type 0} (rack : Ghosts R) where
   ]
 
   -- so long is a good member whose turn hasn't come, where members are made longer
-  pub length_on : (line : Shape) (a b : Store R) (kept : Option KeptLabel) (n : ℕ) → IsLabeled rack line a kept
-      → Passes rack n (λ (q : ℕ). Extended (member_length 2 line)) a b → is_good (members_of b n) ≡ true
+  pub length_on : {may : ℕ → RackCall → Type 0} (line : Shape) (a b : Store R) (kept : Option KeptLabel) (n : ℕ) → IsLabeled rack line a kept
+      → PassesBy rack may n (λ (q : ℕ). Extended (member_length 2 line)) a b → is_good (members_of b n) ≡ true
       → IfSome (rack.bytes (rack_of b) n) (λ all. HasLength line kept n (length all))
   length_on line a b kept n labeled passes good =
       rest_is rack (λ all. HasLength line kept n (length all)) (λ (q : ℕ). Extended (member_length 2 line)) n a b passes
@@ -269,9 +270,9 @@ module _ {R : Type 0} (rack : Ghosts R) where
   fits_whole line a kept labeled q good = fits_one line a kept q (labeled.lengths q (good_stands a q good))
 
   -- a good member that is long already is as if it were made longer
-  pub touched_long : (line : Shape) (a : Store R) (kept : Option KeptLabel) (q : ℕ) → IsSound rack a → is_long kept q ≡ true
+  pub touched_long : {may : ℕ → RackCall → Type 0} (line : Shape) (a : Store R) (kept : Option KeptLabel) (q : ℕ) → IsSound rack a → is_long kept q ≡ true
       → (is_good (members_of a q) ≡ true → IfSome (rack.bytes (rack_of a) q) (λ all. HasLength line kept q (length all)))
-      → Touches rack q (Extended (member_length 2 line)) a a
+      → TouchesBy rack may q (Extended (member_length 2 line)) a a
   touched_long line a kept q sound long has = record {
     array = keeps_none rack a sound;
     here = λ good. extended_same (rack.bytes (rack_of a) q) (has good);
@@ -468,8 +469,8 @@ module _ {R : Type 0} (rack : Ghosts R) where
         label_lengths (λ size. size ≡ member_length 2 line) kept passes q stands (whole q (stood_kept rack a b q passes.array stands))
 
     -- beneath a label of format 1 members are made whole
-    pub whole_extended : (line : Shape) (kept : Option KeptLabel) → IsLabeled rack line a kept
-        → Passes rack (2 * (shape_of a).b) (λ (q : ℕ). Extended (member_length 2 line)) a b → AreWhole rack line b
+    pub whole_extended : {may : ℕ → RackCall → Type 0} (line : Shape) (kept : Option KeptLabel) → IsLabeled rack line a kept
+        → PassesBy rack may (2 * (shape_of a).b) (λ (q : ℕ). Extended (member_length 2 line)) a b → AreWhole rack line b
     whole_extended line kept labeled passes q stands = elim (good_or_filling (members_of b q) stands) [
       | inl good ↦
           let was = good_kept rack a b q passes.array good in
@@ -541,7 +542,7 @@ module _ {R : Type 0} (rack : Ghosts R) where
       )
 
   -- a label stays that of an array none of whose members stands
-  pub none_labeled : (line : Shape) (a b : Store R) (kept : Option KeptLabel) → IsLabeled rack line a kept → KeepsArray rack a b → HasNoGood b → IsLabeled rack line b kept
+  pub none_labeled : {may : ℕ → RackCall → Type 0} (line : Shape) (a b : Store R) (kept : Option KeptLabel) → IsLabeled rack line a kept → KeepsArrayBy rack may a b → HasNoGood b → IsLabeled rack line b kept
   none_labeled line a b kept labeled keeps none = record {
     fits = line_on line (shape_of a) (shape_of b) keeps.stays.shape labeled.fits;
     numbers = labeled.numbers;

@@ -2,6 +2,7 @@
 use Rattle.std.proofs.Common.{◌≡◌, ◌≢◌, ◌⊎◌, ◌∙◌, ◌<◌, ◌≤◌, ◌+◌, ℕ, true, false, List, inl, inr, refl, sym, ap, subst, arith}
 use Rattle.std.specs.Prelude.{◌↔◌, IfSome, None, Option, Some}
 use Rattle.std.proofs.lemmas.Bool.{cases_Bool, cases_eq, false≢true}
+use Rattle.dg_io.specs.RackCalls.{RackCall}
 use Rattle.dg_io.specs.Told.{IsSame, Told}
 use Rattle.dg_io.specs.declared.outside.Rack.{Ghosts}
 use Rattle.dg_model.specs.Members.{IsStruck, MembersFall, is_filling, is_good}
@@ -13,12 +14,12 @@ use Rattle.dg_pair.specs.declared.boundaries.ExtendAnswer.{ExtendAnswer}
 use Rattle.dg_pair.specs.declared.boundaries.ExtendAnswer.TheVariants as extended
 use Rattle.dg_pair.specs.declared.boundaries.NoteAnswer.{NoteAnswer}
 use Rattle.dg_pair.specs.declared.boundaries.NoteAnswer.TheVariants as noted
-use Rattle.dg_store.specs.Leaves.{BytesChange, CallsAtMost, HasWritten, OnlyBytesOf}
-use Rattle.dg_store.specs.ReadLaws.{fell_both, idle_both, stays_both, stays_none}
+use Rattle.dg_store.specs.Leaves.{BytesChange, CallsAtMost, HasWritten, IsCallOrExtendBelow, OnlyBytesOf}
+use Rattle.dg_store.specs.ReadLaws.{fell_both, idle_both, stays_both, stays_none, stays_or_extend}
 use Rattle.dg_store.specs.Stores.{IsSound, members_of, rack_of}
 use Rattle.dg_store.specs.declared.store.Store.{Store}
-use Rattle.dg_label.specs.Passes.{FillingStay, Passes, Touches}
-use Rattle.dg_label.specs.Seals.{KeepsArray}
+use Rattle.dg_label.specs.Passes.{FillingStay, PassesBy, TouchesBy}
+use Rattle.dg_label.specs.Seals.{KeepsArray, KeepsArrayBy}
 
 -- ---- bytes that may be told
 
@@ -108,10 +109,10 @@ module _ {R : Type 0} (rack : Ghosts R) where
   abbrev faults : Store R → ℕ → ℕ
   faults a = (rack.counts (rack_of a)).faults
 
-  rises : (a b : Store R) → KeepsArray rack a b → CountsRise (rack.counts (rack_of a)) (rack.counts (rack_of b))
+  rises : {may : ℕ → RackCall → Type 0} (a b : Store R) → KeepsArrayBy rack may a b → CountsRise (rack.counts (rack_of a)) (rack.counts (rack_of b))
   rises a b keeps = keeps.stays.stays.rise
 
-  pub keeps_none : (a : Store R) → IsSound rack a → KeepsArray rack a a
+  pub keeps_none : {may : ℕ → RackCall → Type 0} (a : Store R) → IsSound rack a → KeepsArrayBy rack may a a
   keeps_none a sound = record {
     sound = sound;
     stays = stays_none rack a;
@@ -122,7 +123,7 @@ module _ {R : Type 0} (rack : Ghosts R) where
     stands = λ V stands. stands;
   }
 
-  pub keeps_both : (a b c : Store R) → KeepsArray rack a b → KeepsArray rack b c → KeepsArray rack a c
+  pub keeps_both : {may : ℕ → RackCall → Type 0} (a b c : Store R) → KeepsArrayBy rack may a b → KeepsArrayBy rack may b c → KeepsArrayBy rack may a c
   keeps_both a b c first second = record {
     sound = second.sound;
     stays = stays_both rack a b c first.stays second.stays;
@@ -134,19 +135,30 @@ module _ {R : Type 0} (rack : Ghosts R) where
     stands = λ V stands. second.stands V (first.stands V stands);
   }
 
-  pub good_kept : (a b : Store R) (q : ℕ) → KeepsArray rack a b → is_good (members_of b q) ≡ true → is_good (members_of a q) ≡ true
+  pub keeps_or_extend : (a b : Store R) → KeepsArray rack a b → KeepsArrayBy rack IsCallOrExtendBelow a b
+  keeps_or_extend a b keeps = record {
+    sound = keeps.sound;
+    stays = stays_or_extend rack a b keeps.stays;
+    idle = keeps.idle;
+    fell = keeps.fell;
+    table = keeps.table;
+    falls = keeps.falls;
+    stands = keeps.stands;
+  }
+
+  pub good_kept : {may : ℕ → RackCall → Type 0} (a b : Store R) (q : ℕ) → KeepsArrayBy rack may a b → is_good (members_of b q) ≡ true → is_good (members_of a q) ≡ true
   good_kept a b q keeps = good_was (faults a) (faults b) (members_of a) (members_of b) q keeps.falls
 
-  pub filling_kept : (a b : Store R) (q : ℕ) → KeepsArray rack a b → is_filling (members_of b q) ≡ true → is_filling (members_of a q) ≡ true
+  pub filling_kept : {may : ℕ → RackCall → Type 0} (a b : Store R) (q : ℕ) → KeepsArrayBy rack may a b → is_filling (members_of b q) ≡ true → is_filling (members_of a q) ≡ true
   filling_kept a b q keeps = filling_was (faults a) (faults b) (members_of a) (members_of b) q keeps.falls
 
-  pub stood_kept : (a b : Store R) (q : ℕ) → KeepsArray rack a b → members_of b q ≢ Out → members_of a q ≢ Out
+  pub stood_kept : {may : ℕ → RackCall → Type 0} (a b : Store R) (q : ℕ) → KeepsArrayBy rack may a b → members_of b q ≢ Out → members_of a q ≢ Out
   stood_kept a b q keeps = stood_was (faults a) (faults b) (members_of a) (members_of b) q keeps.falls
 
-  pub wrote_after : (a b c : Store R) → HasWritten rack a b → KeepsArray rack b c → HasWritten rack a c
+  pub wrote_after : {may : ℕ → RackCall → Type 0} (a b c : Store R) → HasWritten rack a b → KeepsArrayBy rack may b c → HasWritten rack a c
   wrote_after a b c wrote keeps = rose_after _ _ _ wrote (rises b c keeps).writes
 
-  pub wrote_before : (a b c : Store R) → KeepsArray rack a b → HasWritten rack b c → HasWritten rack a c
+  pub wrote_before : {may : ℕ → RackCall → Type 0} (a b c : Store R) → KeepsArrayBy rack may a b → HasWritten rack b c → HasWritten rack a c
   wrote_before a b c keeps wrote = rose_before _ _ _ (rises a b keeps).writes wrote
 
   pub filling_none : (a : Store R) → FillingStay rack a a
@@ -154,12 +166,12 @@ module _ {R : Type 0} (rack : Ghosts R) where
 
   -- ---- one call
 
-  module _ (q : ℕ) (change : List ℕ → List ℕ → Type 0) (a b : Store R) (array : KeepsArray rack a b) (others : OnlyBytesOf rack a b q) (most : CallsAtMost rack a b 1) where
+  module _ {may : ℕ → RackCall → Type 0} (q : ℕ) (change : List ℕ → List ℕ → Type 0) (a b : Store R) (array : KeepsArrayBy rack may a b) (others : OnlyBytesOf rack a b q) (most : CallsAtMost rack a b 1) where
     abbrev AreSame : Type 0
     AreSame = (p : ℕ) → members_of b p ≡ members_of a p
 
     -- the member isn't good, and wasn't called
-    touched_not : members_of a q ≢ Good → AreSame → rack_of b ≡ rack_of a → Touches rack q change a b
+    touched_not : members_of a q ≢ Good → AreSame → rack_of b ≡ rack_of a → TouchesBy rack may q change a b
     touched_not bad same quiet = record {
       array = array;
       here = λ good. absurd (bad (good_is (members_of a q) (ap is_good (sym (same q)) ∙ good)));
@@ -170,7 +182,7 @@ module _ {R : Type 0} (rack : Ghosts R) where
     }
 
     -- the call was done
-    touched_done : members_of a q ≡ Good → AreSame → BytesChange rack a b q change → Touches rack q change a b
+    touched_done : members_of a q ≡ Good → AreSame → BytesChange rack a b q change → TouchesBy rack may q change a b
     touched_done was same changed = record {
       array = array;
       here = λ good. changed;
@@ -181,7 +193,7 @@ module _ {R : Type 0} (rack : Ghosts R) where
     }
 
     -- it failed, and the member is out
-    touched_fell : IsStruck q (members_of a) (members_of b) → Touches rack q change a b
+    touched_fell : IsStruck q (members_of a) (members_of b) → TouchesBy rack may q change a b
     touched_fell struck = record {
       array = array;
       here = λ good. absurd (out_good (members_of b q) struck.out good);
@@ -196,7 +208,7 @@ module _ {R : Type 0} (rack : Ghosts R) where
 
     pub touched_by_note : (answer : NoteAnswer) → (answer ≡ noted.NotGood) ↔ (members_of a q ≢ Good) → (answer ≢ noted.Fell → AreSame)
         → (answer ≡ noted.Fell → IsStruck q (members_of a) (members_of b)) → (answer ≡ noted.Noted → BytesChange rack a b q change)
-        → (answer ≡ noted.NotGood → rack_of b ≡ rack_of a) → Touches rack q change a b
+        → (answer ≡ noted.NotGood → rack_of b ≡ rack_of a) → TouchesBy rack may q change a b
     touched_by_note noted.NotGood not_good kept fell changed quiet = touched_not (not_good.0 refl) (kept (λ e. cc e)) (quiet refl)
     touched_by_note noted.Noted not_good kept fell changed quiet = elim (good_or (members_of a q)) [
       | inl good ↦ touched_done good (kept (λ e. cc e)) (changed refl)
@@ -206,7 +218,7 @@ module _ {R : Type 0} (rack : Ghosts R) where
 
     pub touched_by_extend : (answer : ExtendAnswer) → (answer ≡ extended.NotGood) ↔ (members_of a q ≢ Good) → (answer ≢ extended.Fell → AreSame)
         → (answer ≡ extended.Fell → IsStruck q (members_of a) (members_of b)) → (answer ≡ extended.Extended → BytesChange rack a b q change)
-        → (answer ≡ extended.NotGood → rack_of b ≡ rack_of a) → Touches rack q change a b
+        → (answer ≡ extended.NotGood → rack_of b ≡ rack_of a) → TouchesBy rack may q change a b
     touched_by_extend extended.NotGood not_good kept fell changed quiet = touched_not (not_good.0 refl) (kept (λ e. cc e)) (quiet refl)
     touched_by_extend extended.Extended not_good kept fell changed quiet = elim (good_or (members_of a q)) [
       | inl good ↦ touched_done good (kept (λ e. cc e)) (changed refl)
@@ -237,7 +249,7 @@ module _ {R : Type 0} (rack : Ghosts R) where
 
   -- ---- one call after another
 
-  pub passes_none : (change : ℕ → List ℕ → List ℕ → Type 0) (a : Store R) → IsSound rack a → Passes rack 0 change a a
+  pub passes_none : {may : ℕ → RackCall → Type 0} (change : ℕ → List ℕ → List ℕ → Type 0) (a : Store R) → IsSound rack a → PassesBy rack may 0 change a a
   passes_none change a sound = record {
     array = keeps_none a sound;
     done = λ q low good. absurd (omega (arith, low));
@@ -247,7 +259,7 @@ module _ {R : Type 0} (rack : Ghosts R) where
     most = omega arith;
   }
 
-  module _ (change : ℕ → List ℕ → List ℕ → Type 0) (n : ℕ) (a b c : Store R) (first : Passes rack n change a b) (next : Touches rack n (change n) b c) where
+  module _ {may : ℕ → RackCall → Type 0} (change : ℕ → List ℕ → List ℕ → Type 0) (n : ℕ) (a b c : Store R) (first : PassesBy rack may n change a b) (next : TouchesBy rack may n (change n) b c) where
     more_done : (q : ℕ) → q < n + 1 → is_good (members_of c q) ≡ true → BytesChange rack a c q (change q)
     more_done q low good = elim (cases_eq q n) [
       | inl e ↦
@@ -267,7 +279,7 @@ module _ {R : Type 0} (rack : Ghosts R) where
       | inr other ↦ told_then IsSame _ _ _ (first.filling q (filling_kept b c q next.array filling)) (next.others q other)
     ]
 
-    pub passes_more : Passes rack (n + 1) change a c
+    pub passes_more : PassesBy rack may (n + 1) change a c
     passes_more = record {
       array = keeps_both a b c first.array next.array;
       done = more_done;
@@ -278,13 +290,13 @@ module _ {R : Type 0} (rack : Ghosts R) where
     }
 
   -- a member that isn't good stays so
-  pub bad_stays : (a b : Store R) (q : ℕ) → KeepsArray rack a b → is_good (members_of a q) ≡ false → is_good (members_of b q) ≡ false
+  pub bad_stays : {may : ℕ → RackCall → Type 0} (a b : Store R) (q : ℕ) → KeepsArrayBy rack may a b → is_good (members_of a q) ≡ false → is_good (members_of b q) ≡ false
   bad_stays a b q keeps bad = elim (cases_Bool (is_good (members_of b q))) [
     | inl good ↦ absurd (false≢true (sym bad ∙ good_kept a b q keeps good))
     | inr still ↦ still
   ]
 
-  pub bad_more : (n : ℕ) (a b : Store R) → KeepsArray rack a b → ((q : ℕ) → q < n → is_good (members_of a q) ≡ false) → is_good (members_of b n) ≡ false
+  pub bad_more : {may : ℕ → RackCall → Type 0} (n : ℕ) (a b : Store R) → KeepsArrayBy rack may a b → ((q : ℕ) → q < n → is_good (members_of a q) ≡ false) → is_good (members_of b n) ≡ false
       → (q : ℕ) → q < n + 1 → is_good (members_of b q) ≡ false
   bad_more n a b keeps before here q low = elim (cases_eq q n) [
     | inl e ↦ subst (λ (k : ℕ). is_good (members_of b k) ≡ false) (sym e) here
@@ -292,7 +304,7 @@ module _ {R : Type 0} (rack : Ghosts R) where
   ]
 
   -- a good member that isn't yet passed is so still, and its call is one of all calls
-  pub wrote_more : (change : ℕ → List ℕ → List ℕ → Type 0) (n : ℕ) (a b c : Store R) → Passes rack n change a b → KeepsArray rack b c
+  pub wrote_more : {may : ℕ → RackCall → Type 0} (change : ℕ → List ℕ → List ℕ → Type 0) (n : ℕ) (a b c : Store R) → PassesBy rack may n change a b → KeepsArrayBy rack may b c
       → ((q : ℕ) → q < n → is_good (members_of a q) ≡ true → HasWritten rack a b) → (is_good (members_of b n) ≡ true → HasWritten rack b c)
       → (q : ℕ) → q < n + 1 → is_good (members_of a q) ≡ true → HasWritten rack a c
   wrote_more change n a b c passes keeps before here q low good = elim (cases_eq q n) [
@@ -301,6 +313,6 @@ module _ {R : Type 0} (rack : Ghosts R) where
   ]
 
   -- no member that isn't yet passed has changed
-  pub rest_is : (P : List ℕ → Type 0) (change : ℕ → List ℕ → List ℕ → Type 0) (n : ℕ) (a b : Store R) → Passes rack n change a b
+  pub rest_is : {may : ℕ → RackCall → Type 0} (P : List ℕ → Type 0) (change : ℕ → List ℕ → List ℕ → Type 0) (n : ℕ) (a b : Store R) → PassesBy rack may n change a b
       → IfSome (rack.bytes (rack_of a) n) P → IfSome (rack.bytes (rack_of b) n) P
   rest_is P change n a b passes had = told_is P (rack.bytes (rack_of a) n) (rack.bytes (rack_of b) n) (passes.rest n (omega arith)) had

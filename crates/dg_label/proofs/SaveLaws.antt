@@ -2,13 +2,14 @@
 use Rattle.std.proofs.Common.{◌≡◌, ◌≢◌, ◌⊎◌, ◌∙◌, ◌≤◌, ◌+◌, ◌*◌, ℕ, suc, Bool, true, false, not, List, length, inl, inr, refl, sym, ap, subst, take, arith}
 use Rattle.std.specs.Prelude.{IfSome, None, Option, Some, if◌then◌else◌}
 use Rattle.std.proofs.lemmas.Bool.{both_ways, cases_Bool}
+use Rattle.dg_io.specs.RackCalls.{RackCall}
 use Rattle.dg_io.specs.Told.{Extended, IsSame, KeepsFront, Patched, Told, Torn}
 use Rattle.dg_io.specs.declared.outside.Rack.{Ghosts}
 use Rattle.dg_label.specs.Labels.{is_long, is_sealed, unsealed}
 use Rattle.dg_label.specs.Pages.{LeavesFallen, OpensMember, PageFails, numbered, page_of}
-use Rattle.dg_label.specs.Passes.{HaveRoom, IsUncalled, Passes}
+use Rattle.dg_label.specs.Passes.{HaveRoom, IsUncalled, Passes, PassesBy}
 use Rattle.dg_label.specs.Saves.{LeavesMember, LeavesMembers, save_calls, saved_numbers, short_members}
-use Rattle.dg_label.specs.Seals.{KeepsArray, OpensSeal}
+use Rattle.dg_label.specs.Seals.{KeepsArrayBy, OpensSeal}
 use Rattle.dg_label.specs.declared.labels.KeptLabel.{KeptLabel}
 use Rattle.dg_label.proofs.ByteLaws.{extended_front, front_longer, front_patched, same_front}
 use Rattle.dg_label.proofs.FallenLaws.{same_more}
@@ -20,7 +21,7 @@ use Rattle.dg_model.specs.Saves.{HasBody, body_place, label_bytes, member_length
 use Rattle.dg_model.specs.declared.shapes.Shape.{Shape}
 use Rattle.dg_pair.specs.declared.boundaries.ExtendAnswer.{ExtendAnswer}
 use Rattle.dg_pair.specs.declared.boundaries.ExtendAnswer.TheVariants as extended
-use Rattle.dg_store.specs.Leaves.{BytesChange, CallsAtMost, OnlyBytesOf, OnlyFaultsOf}
+use Rattle.dg_store.specs.Leaves.{BytesChange, CallsAtMost, IsCallOrExtendBelow, OnlyBytesOf, OnlyFaultsOf}
 use Rattle.dg_store.specs.Stores.{IsSound, members_of, rack_of, shape_of}
 use Rattle.dg_store.specs.declared.store.Store.{Store}
 
@@ -104,7 +105,7 @@ module _ {R : Type 0} (rack : Ghosts R) where
   -- ---- members that are made longer
 
   -- where members are made longer, all that stood on each stands there still
-  pub extended_fronts : (a b : Store R) (size : ℕ) → IsSound rack a → Passes rack (2 * (shape_of a).b) (λ (q : ℕ). Extended size) a b
+  pub extended_fronts : {may : ℕ → RackCall → Type 0} (a b : Store R) (size : ℕ) → IsSound rack a → PassesBy rack may (2 * (shape_of a).b) (λ (q : ℕ). Extended size) a b
       → LeavesFallen rack (λ (q : ℕ). KeepsFront) a b → (q : ℕ) → BytesChange rack a b q KeepsFront
   extended_fronts a b size sound passes fallen q = elim (cases_Bool (is_good (members_of a q))) [
     | inl good ↦ elim (cases_Bool (is_good (members_of b q))) [
@@ -199,7 +200,7 @@ module _ {R : Type 0} (rack : Ghosts R) where
   -- ---- the whole
 
   module _ (a b c d e : Store R) (before after : Option KeptLabel) (body : List ℕ) (sound : IsSound rack a) (opens : OpensSeal rack a b before after)
-      (keeps : KeepsArray rack b c) (fronts : (q : ℕ) → BytesChange rack b c q KeepsFront)
+      (keeps : KeepsArrayBy rack IsCallOrExtendBelow b c) (fronts : (q : ℕ) → BytesChange rack b c q KeepsFront)
       (untouched : (q : ℕ) → is_good (members_of b q) ≡ false → BytesChange rack b c q IsSame) (room : HaveRoom rack c (length body))
       (bodies : Passes rack (2 * (shape_of c).b) (λ (q : ℕ). Patched (body_place (shape_of c)) body) c d)
       (bodies_fallen : LeavesFallen rack (λ (q : ℕ). Torn (body_place (shape_of c)) (length body)) c d)

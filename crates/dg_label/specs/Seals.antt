@@ -1,5 +1,6 @@
 -- What opening a seal, and saving, leave of an array and its label.
 use Rattle.std.specs.Prelude.{◌≡◌, ◌*◌, ℕ, true, false, List, Option, Some}
+use Rattle.dg_io.specs.RackCalls.{RackCall}
 use Rattle.dg_io.specs.Told.{IsSame}
 use Rattle.dg_io.specs.declared.outside.Rack.{Ghosts}
 use Rattle.dg_label.specs.Labels.{IsLabeled, StandsLabeled, is_sealed, next_number, unsealed}
@@ -11,7 +12,7 @@ use Rattle.dg_model.specs.Members.{MembersFall, is_good}
 use Rattle.dg_model.specs.Seals.{LastLabel, label_after}
 use Rattle.dg_model.specs.States.{IsLeastLost}
 use Rattle.dg_model.specs.declared.shapes.Shape.{Shape}
-use Rattle.dg_store.specs.Leaves.{BytesChange, CallsAtMost, HasWritten, KeepsOut, PutsOut, Stays}
+use Rattle.dg_store.specs.Leaves.{BytesChange, CallsAtMost, HasWritten, IsCallBelow, KeepsOut, PutsOut, StaysBy}
 use Rattle.dg_store.specs.Stores.{IsSound, KeepsBlocks, members_of, rack_of, shape_of, table_of}
 use Rattle.dg_store.specs.declared.store.Store.{Store}
 
@@ -23,15 +24,19 @@ abbrev pub HasNoGood : {R : Type 0} → Store R → Type 0
 HasNoGood store = (q : ℕ) → is_good (members_of store q) ≡ false
 
 -- What writing beside the slots leaves of an array: no site moves, only members that aren't out are called, they only fall, and each block
--- keeps its value.
-pub record KeepsArray {R : Type 0} (rack : Ghosts R) (old new : Store R) : Type 0 where
+-- keeps its value. `may` is which calls it makes of the rack.
+pub record KeepsArrayBy {R : Type 0} (rack : Ghosts R) (may : ℕ → RackCall → Type 0) (old new : Store R) : Type 0 where
   pub sound : IsSound rack new
-  pub stays : Stays rack old new
+  pub stays : StaysBy rack may old new
   pub idle : KeepsOut rack old new
   pub fell : PutsOut rack old new
   pub table : table_of new ≡ table_of old
   pub falls : MembersFall (rack.counts (rack_of old)).faults (rack.counts (rack_of new)).faults (members_of old) (members_of new)
   pub stands : KeepsBlocks rack old new
+
+-- the same where members are read and written alone
+abbrev pub KeepsArray : {R : Type 0} → Ghosts R → Store R → Store R → Type 0
+KeepsArray rack old new = KeepsArrayBy rack IsCallBelow old new
 
 -- The seal of this label was opened: what that leaves of the members that were good, and of the others.
 pub record OpensMembers {R : Type 0} (rack : Ghosts R) (kept : KeptLabel) (old new : Store R) : Type 0 where

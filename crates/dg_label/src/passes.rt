@@ -4,13 +4,13 @@ ghost use Rattle.dg_io.specs.Told.{Extended, IsSame, KeepsFront, Patched, Torn};
 ghost use Rattle.dg_label.specs.Labels.{AreNumbers, HasLength, IsLabeled};
 ghost use Rattle.dg_label.specs.Labels.{is_long as is_long_under};
 ghost use Rattle.dg_label.specs.Pages.{LeavesFallen, PageFails, numbered, page_of};
-ghost use Rattle.dg_label.specs.Passes.{AreWhole, FillingStay, HaveRoom, IsUncalled, Passes, Touches};
+ghost use Rattle.dg_label.specs.Passes.{AreWhole, FillingStay, HaveRoom, IsUncalled, Passes, Touches, TouchesBy};
 ghost use Rattle.dg_label.specs.Saves.{short_members};
-ghost use Rattle.dg_label.specs.Seals.{HasGood, HasNoGood, KeepsArray};
+ghost use Rattle.dg_label.specs.Seals.{HasGood, HasNoGood, KeepsArrayBy};
 ghost use Rattle.dg_model.specs.Members.{is_good};
 ghost use Rattle.dg_model.specs.Saves.{body_place as place_of_body, label_bytes, member_length as length_of};
 ghost use Rattle.dg_model.specs.Shapes.{IsShape};
-ghost use Rattle.dg_store.specs.Leaves.{BytesChange, CallsAtMost, HasWritten};
+ghost use Rattle.dg_store.specs.Leaves.{BytesChange, CallsAtMost, HasWritten, IsCallOrExtendBelow};
 ghost use Rattle.dg_store.specs.Stores.{IsSound, members_of, rack_of, shape_of};
 
 use crate::labels::{KeptLabel, is_long};
@@ -97,7 +97,7 @@ fn lengthen_one<R: Rack>(store: &mut Store<R>, line: &Shape, label: &Option<Kept
     requires line { IsShape line.now }
     requires length { is_good (members_of store.old member) ≡ true
         → IfSome (R.bytes (rack_of store.old) member) (λ all. HasLength line.now label.now member (length all)) }
-    ensures touches { Touches R.Rack member (Extended (length_of 2 line.now)) store.old store.new }
+    ensures touches { TouchesBy R.Rack IsCallOrExtendBelow member (Extended (length_of 2 line.now)) store.old store.new }
     ensures fallen { LeavesFallen R.Rack (λ q. KeepsFront) store.old store.new }
     ensures uncalled { (q : ℕ) → is_good (members_of store.old q) ≡ true → (q ≡ member → is_long_under label.now member ≡ true)
         → IsUncalled R.Rack q store.old store.new }
@@ -114,7 +114,7 @@ fn lengthen_one<R: Rack>(store: &mut Store<R>, line: &Shape, label: &Option<Kept
 pub fn lengthen<R: Rack>(store: &mut Store<R>, line: &Shape, label: &Option<KeptLabel>)
     requires sound { IsSound R.Rack store.old }
     requires labeled { IsLabeled R.Rack line.now store.old label.now }
-    ensures array { KeepsArray R.Rack store.old store.new }
+    ensures array { KeepsArrayBy R.Rack IsCallOrExtendBelow store.old store.new }
     ensures filling { FillingStay R.Rack store.old store.new }
     ensures whole { AreWhole R.Rack line.now store.new }
     ensures fronts { (q : ℕ) → BytesChange R.Rack store.old store.new q KeepsFront }

@@ -3,10 +3,10 @@ ghost use Rattle.std.specs.Prelude.{◌≡◌, ◌≤◌, ℕ, false, length, If
 ghost use Rattle.dg_io.specs.Told.{IsSame};
 ghost use Rattle.dg_label.specs.Labels.{IsLabeled};
 ghost use Rattle.dg_label.specs.Saves.{LeavesMembers, save_calls};
-ghost use Rattle.dg_label.specs.Seals.{AnswersSave, KeepsArray};
+ghost use Rattle.dg_label.specs.Seals.{AnswersSave, KeepsArrayBy};
 ghost use Rattle.dg_model.specs.Members.{is_good};
 ghost use Rattle.dg_model.specs.Saves.{room_of};
-ghost use Rattle.dg_store.specs.Leaves.{BytesChange, CallsAtMost};
+ghost use Rattle.dg_store.specs.Leaves.{BytesChange, CallsAtMost, IsCallOrExtendBelow};
 ghost use Rattle.dg_store.specs.Stores.{IsSound, members_of, shape_of};
 
 use crate::labels::{KeptLabel, number_after};
@@ -44,7 +44,7 @@ pub fn save<R: Rack>(
     requires sound { IsSound R.Rack store.old }
     requires labeled { IsLabeled R.Rack line.now store.old label.old }
     requires body { length body.now ≤ room_of 2 (shape_of store.old) }
-    ensures array { KeepsArray R.Rack store.old store.new }
+    ensures array { KeepsArrayBy R.Rack IsCallOrExtendBelow store.old store.new }
     ensures labeled { IsLabeled R.Rack line.now store.new label.new }
     ensures answer { IfOk result (AnswersSave R.Rack line.now body.now store.old store.new label.old label.new) }
     ensures members { IfOk result (λ answer. LeavesMembers R.Rack body.now label.old store.old store.new) }

@@ -123,8 +123,8 @@ dropped Known = record {
   tied = record {
     goes = λ d before now. inr (same_from_test d 33 now);
     stays = λ d before. absurd (false≢true before);
-    fails = λ s in_use less. absurd (omega (arith, less));
-    falls = λ s in_use there out. absurd (there out);
+    fails = λ known s in_use less. absurd (omega (arith, less));
+    falls = λ known s in_use there out. absurd (there out);
     lost = λ s in_use two. absurd (few_out s two);
     second = no_second;
   };
@@ -138,14 +138,14 @@ dropped_and_wrote Known new more h = let e = h.1.unwritten in omega (arith, more
 abbrev pair_out : ℕ → Bool
 pair_out d = (d == 33) || (d == 34)
 
-still_there : (event : Event) (old : Moment) → GoesWithDisks 3 event old (over grouped pair_out) → ⊥
+still_there : (Known : Type 0) (event : Event) (old : Moment) → GoesWithDisks Known 3 event old (over grouped pair_out) → ⊥
 unfolding firsts
-still_there event old h = false≢true (sym (ap is_good (h.lost 0 (omega arith) refl)))
+still_there Known event old h = false≢true (sym (ap is_good (h.lost 0 (omega arith) refl)))
 
--- and one disk that is out loses nothing
-lost_by_one : (Known : Type 0) → Happens Known (parity 3) (over grouped (λ d. false)) (DropDisk 0 1) Done (over (record grouped { members = λ q. Out }) one_out) → ⊥
+-- and one disk that is out loses nothing, where this is known
+lost_by_one : (Known : Type 0) → Known → Happens Known (parity 3) (over grouped (λ d. false)) (DropDisk 0 1) Done (over (record grouped { members = λ q. Out }) one_out) → ⊥
 unfolding firsts
-lost_by_one Known h = elim (h.tied.falls 0 (omega arith) (λ out. false≢true (sym (ap is_good out))) refl) [
+lost_by_one Known known h = elim (h.tied.falls known 0 (omega arith) (λ out. false≢true (sym (ap is_good out))) refl) [
   | inl two ↦ few_out 0 two
   | inr none ↦ none
 ]

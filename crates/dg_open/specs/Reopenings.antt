@@ -2,7 +2,7 @@
 use Rattle.std.specs.Prelude.{◌≡◌, ◌⊎◌, ◌<◌, ◌==◌, ◌&&◌, ◌↔◌, ℕ, true, Option, Some, length}
 use Rattle.dg_io.specs.Makes.{Makes}
 use Rattle.dg_io.specs.RackCalls.{RackCall}
-use Rattle.dg_io.specs.RackCalls.RackCall.{looks, blanks, calls}
+use Rattle.dg_io.specs.RackCalls.RackCall.{looks, blanks, calls, extends}
 use Rattle.dg_io.specs.Told.{IsSame, StillTold, Told}
 use Rattle.dg_io.specs.declared.outside.Rack.{Ghosts}
 use Rattle.dg_label.specs.Labels.{IsLabeled, StandsLabeled}
@@ -26,6 +26,7 @@ abbrev pub IsCallOfOpening : RackCall → Type 0
 IsCallOfOpening (looks q) = q < 32
 IsCallOfOpening (blanks q) = ⊥
 IsCallOfOpening (calls q) = q < 32
+IsCallOfOpening (extends q) = ⊥
 
 -- What finding and reading members leaves of a rack: it is the same, no count fell, nothing was written, each member that tells its bytes has
 -- those that it had, what tells its bytes did so before, and the rack is steady or not as it was. Only members 0 to 31 were called.

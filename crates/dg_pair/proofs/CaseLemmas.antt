@@ -7,13 +7,13 @@ use Rattle.dg_model.specs.Members.{is_good, partner_of, ArePaired, HasRoom, Memb
 use Rattle.dg_model.specs.declared.members.MemberState.{MemberState}
 use Rattle.dg_model.specs.declared.members.MemberState.TheVariants.{Good, Filling, Out}
 use Rattle.dg_io.specs.OnlyLaws.{only_such}
-use Rattle.dg_io.specs.RackCalls.{RackCall, looks, blanks, calls}
+use Rattle.dg_io.specs.RackCalls.{RackCall, looks, blanks, calls, extends}
 use Rattle.dg_io.specs.RackWords.{MadeOnly}
 use Rattle.dg_io.specs.declared.outside.Rack.{Ghosts}
 use Rattle.dg_pair.specs.declared.boundaries.Boundary.{Boundary}
 use Rattle.dg_pair.specs.declared.boundaries.Boundary.TheVariants.{Both, Half, Fill, Lost}
 use Rattle.dg_pair.specs.Boundaries.{members_of, number_of, size_of, slots_of, IsWell, MembersFit}
-use Rattle.dg_pair.specs.Calls.{IsCallAt, IsCallOf, IsPair, LeavesPair}
+use Rattle.dg_pair.specs.Calls.{IsCallAt, IsCallOf, IsExtendAt, IsExtendOf, IsPair, LeavesBoundary, LeavesPair}
 use Rattle.dg_pair.specs.Cases.{Fits, EachIn, IsOther, LeavesCase}
 use Rattle.dg_pair.proofs.BoundaryLemmas.{own_members}
 use Rattle.dg_pair.proofs.ReplaceLemmas.{out_or}
@@ -97,15 +97,26 @@ fell_out x f g same q rose = elim (out_or (members_of x q)) [
 -- a call on a member that isn't out is one on a member of the boundary
 call_at : (x : Boundary) → IsWell x → (call : RackCall) → IsCallOf (members_of x) call → IsCallAt (number_of x) call
 call_at x well (looks q) is = is
-call_at x well (blanks q) is = absurd is
+call_at x well (blanks q) is = is
 call_at x well (calls q) is = elim (cases_eq (q / 2) (number_of x)) [ inl e ↦ e | inr other ↦ absurd (is (own_members x well q other)) ]
+call_at x well (extends q) is = is
+
+-- and so is one that extends it
+extend_at : (x : Boundary) → IsWell x → (call : RackCall) → IsExtendOf (members_of x) call → IsExtendAt (number_of x) call
+extend_at x well (looks q) is = is
+extend_at x well (blanks q) is = is
+extend_at x well (calls q) is = is
+extend_at x well (extends q) is = elim (cases_eq (q / 2) (number_of x)) [ inl e ↦ e | inr other ↦ absurd (is (own_members x well q other)) ]
 
 pub only_at : {S : Type 0} (rack : Ghosts S) (x : Boundary) (before now : S) → IsWell x → MadeOnly rack (IsCallOf (members_of x)) before now → MadeOnly rack (IsCallAt (number_of x)) before now
 only_at rack x before now well only = only_such rack (IsCallOf (members_of x)) (IsCallAt (number_of x)) before now (call_at x well) only
 
-pub leaves_fit : {S : Type 0} (rack : Ghosts S) (expected : ℕ → MemberState) (old new : Boundary) (before now : S) → IsWell old → LeavesCase rack old new before now
+pub extended_at : {S : Type 0} (rack : Ghosts S) (x : Boundary) (before now : S) → IsWell x → MadeOnly rack (IsExtendOf (members_of x)) before now → MadeOnly rack (IsExtendAt (number_of x)) before now
+extended_at rack x before now well only = only_such rack (IsExtendOf (members_of x)) (IsExtendAt (number_of x)) before now (extend_at x well) only
+
+pub leaves_fit : {S : Type 0} (rack : Ghosts S) {may : RackCall → Type 0} (expected : ℕ → MemberState) (old new : Boundary) (before now : S) → IsWell old → LeavesCase rack old new before now
     → MembersFall (rack.counts before).faults (rack.counts now).faults expected (members_of new) → MembersFit (size_of old) (slots_of old) (members_of new) (rack.bytes now)
-    → MadeOnly rack (IsCallAt (number_of old)) before now → LeavesPair rack expected old new before now
+    → MadeOnly rack may before now → LeavesBoundary rack may (number_of old) (size_of old) (slots_of old) expected new before now
 leaves_fit rack expected old new before now was case falls fit only = record {
   pair = pair_from new _ _ _ case.well case.number case.size case.slots;
   falls = falls;

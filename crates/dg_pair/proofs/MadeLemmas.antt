@@ -5,7 +5,7 @@ use Rattle.std.proofs.lemmas.Bool.Decides.{nat_tests}
 use Rattle.dg_model.specs.declared.members.MemberState.{MemberState}
 use Rattle.dg_model.specs.declared.members.MemberState.TheVariants.{Good, Filling, Out}
 use Rattle.dg_io.specs.OnlyLaws.{only_none, only_one, only_such, only_both}
-use Rattle.dg_io.specs.RackCalls.{RackCall, looks, blanks, calls}
+use Rattle.dg_io.specs.RackCalls.{RackCall, looks, blanks, calls, extends}
 use Rattle.dg_io.specs.RackWords.{MadeOnly}
 use Rattle.dg_io.specs.declared.outside.Rack.{Ghosts}
 use Rattle.dg_pair.specs.declared.members.Good.{Good as GoodType}
@@ -20,7 +20,7 @@ use Rattle.dg_pair.specs.declared.boundaries.ReplaceAnswer.{ReplaceAnswer}
 use Rattle.dg_pair.specs.declared.boundaries.ReplaceAnswer.TheVariants.{Replaced, Lost, NotOut, Failed}
 use Rattle.dg_pair.specs.declared.boundaries.Boundary.TheVariants.{Both, Half, Fill}
 use Rattle.dg_pair.specs.Boundaries.{members_of}
-use Rattle.dg_pair.specs.Calls.{IsBlankOf, IsCallAt, IsCallOf}
+use Rattle.dg_pair.specs.Calls.{IsBlankAt, IsBlankOf, IsCallOf, IsExtendOf}
 
 is_good : (m : MemberState) → m ≡ Good → m ≢ Out
 is_good m good out = let e = sym good ∙ out in cc
@@ -47,6 +47,7 @@ module _ {S : Type 0} (rack : Ghosts S) (then : (a b c : S) (x y : List RackCall
   half_in a b out (looks q) is = is
   half_in a b out (blanks q) is = is
   half_in a b out (calls q) is = λ e. is (grind (arith, nat_tests))
+  half_in a b out (extends q) is = is
 
   pub both_half : (a b : Member GoodType) (out : Member OutType) → rack.made first (calls a.number ∷ []) mid → MadeOnly rack (IsCallOf (members_of (Half b out))) mid last → MadeOnly rack (IsCallOf (members_of (Both a b))) first last
   both_half a b out one two = only_both rack _ then first mid last (both_made rack a b first mid one) (only_such rack _ _ mid last (half_in a b out) two)
@@ -61,6 +62,11 @@ pub tried_made : {S : Type 0} (rack : Ghosts S) (none : (s : S) → rack.made s 
     → ((Quiet → ⊥) → rack.made before (calls p ∷ []) now) → (Quiet → now ≡ before) → MadeOnly rack (IsCallOf members) before now
 tried_made rack none members p before now Quiet (inl is) not_good made quiet = subst (λ s. MadeOnly rack (IsCallOf members) before s) (sym (quiet is)) (only_none rack _ none before)
 tried_made rack none members p before now Quiet (inr not) not_good made quiet = only_one rack _ (calls p) before now (λ out. not (not_good.1 (λ good. let e = sym good ∙ out in cc))) (made not)
+
+pub tried_extend : {S : Type 0} (rack : Ghosts S) (none : (s : S) → rack.made s [] s) (members : ℕ → MemberState) (p : ℕ) (before now : S) (Quiet : Type 0) → Quiet ⊎ (Quiet → ⊥) → Quiet ↔ (members p ≢ Good)
+    → ((Quiet → ⊥) → rack.made before (extends p ∷ []) now) → (Quiet → now ≡ before) → MadeOnly rack (IsExtendOf members) before now
+tried_extend rack none members p before now Quiet (inl is) not_good made quiet = subst (λ s. MadeOnly rack (IsExtendOf members) before s) (sym (quiet is)) (only_none rack _ none before)
+tried_extend rack none members p before now Quiet (inr not) not_good made quiet = only_one rack _ (extends p) before now (λ out. not (not_good.1 (λ good. let e = sym good ∙ out in cc))) (made not)
 
 pub noted_or : (answer : NoteAnswer) → (answer ≡ NoteNotGood) ⊎ (answer ≢ NoteNotGood)
 noted_or Noted = inr (λ e. cc)
@@ -80,12 +86,13 @@ replace_made rack none Failed p before now made quiet = only_one rack _ (blanks 
 replace_made rack none Lost p before now made quiet = subst (λ s. MadeOnly rack (IsBlankOf p) before s) (sym (quiet (inl refl))) (only_none rack _ none before)
 replace_made rack none NotOut p before now made quiet = subst (λ s. MadeOnly rack (IsBlankOf p) before s) (sym (quiet (inr refl))) (only_none rack _ none before)
 
-blank_at : (number side : ℕ) → side < 2 → (call : RackCall) → IsBlankOf (2 * number + side) call → IsCallAt number call
+blank_at : (number side : ℕ) → side < 2 → (call : RackCall) → IsBlankOf (2 * number + side) call → IsBlankAt number call
 blank_at number side small (looks q) is = is
 blank_at number side small (blanks q) is = omega (arith, small, is)
-blank_at number side small (calls q) is = absurd is
+blank_at number side small (calls q) is = is
+blank_at number side small (extends q) is = is
 
-pub replace_at : {S : Type 0} (rack : Ghosts S) (number side : ℕ) (before now : S) → side < 2 → MadeOnly rack (IsBlankOf (2 * number + side)) before now → MadeOnly rack (IsCallAt number) before now
+pub replace_at : {S : Type 0} (rack : Ghosts S) (number side : ℕ) (before now : S) → side < 2 → MadeOnly rack (IsBlankOf (2 * number + side)) before now → MadeOnly rack (IsBlankAt number) before now
 replace_at rack number side before now small only = only_such rack _ _ before now (blank_at number side small) only
 
 -- the two members of a new boundary are made anew in their order
@@ -93,5 +100,5 @@ pub new_made : {S : Type 0} (rack : Ghosts S) → ((a b c : S) (x y : List RackC
     → rack.made first (blanks (2 * number) ∷ []) mid → rack.made mid (blanks (2 * number + 1) ∷ []) last → rack.made first (blanks (2 * number) ∷ blanks (2 * number + 1) ∷ []) last
 new_made rack then number first mid last one two = then first mid last (blanks (2 * number) ∷ []) (blanks (2 * number + 1) ∷ []) one two
 
-pub new_at : {S : Type 0} (rack : Ghosts S) (number : ℕ) (first last : S) → rack.made first (blanks (2 * number) ∷ blanks (2 * number + 1) ∷ []) last → MadeOnly rack (IsCallAt number) first last
+pub new_at : {S : Type 0} (rack : Ghosts S) (number : ℕ) (first last : S) → rack.made first (blanks (2 * number) ∷ blanks (2 * number + 1) ∷ []) last → MadeOnly rack (IsBlankAt number) first last
 new_at rack number first last made = record { calls = blanks (2 * number) ∷ blanks (2 * number + 1) ∷ []; each = (omega arith, (omega arith, tt)); made = made }

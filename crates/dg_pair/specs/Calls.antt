@@ -4,7 +4,7 @@ use Rattle.dg_model.specs.Members.{ArePaired, MembersFall}
 use Rattle.dg_model.specs.States.{Counts, CountsRise}
 use Rattle.dg_model.specs.declared.members.MemberState.{MemberState}
 use Rattle.dg_model.specs.declared.members.MemberState.TheVariants.{Good, Filling, Out}
-use Rattle.dg_io.specs.RackCalls.{RackCall, looks, blanks, calls}
+use Rattle.dg_io.specs.RackCalls.{RackCall, looks, blanks, calls, extends}
 use Rattle.dg_io.specs.RackWords.{MadeOnly}
 use Rattle.dg_io.specs.Told.{Told, IsSame, Torn, StillTold}
 use Rattle.dg_io.specs.declared.outside.Rack.{Ghosts}
@@ -30,26 +30,50 @@ pub record IsPair (number l slots : ℕ) (boundary : Boundary) : Type 0 where
 abbrev pub KeepsPair : Boundary → Boundary → Type 0
 KeepsPair old new = IsPair (number_of old) (size_of old) (slots_of old) new
 
--- a call on a member of boundary s, which doesn't look for it
+-- a call that reads or writes a member of boundary s
 abbrev pub IsCallAt : ℕ → RackCall → Type 0
 IsCallAt s (looks q) = ⊥
-IsCallAt s (blanks q) = q / 2 ≡ s
+IsCallAt s (blanks q) = ⊥
 IsCallAt s (calls q) = q / 2 ≡ s
+IsCallAt s (extends q) = ⊥
 
--- a call on a member that isn't out, which neither looks for it nor makes it anew
+-- a call that extends a member of boundary s
+abbrev pub IsExtendAt : ℕ → RackCall → Type 0
+IsExtendAt s (looks q) = ⊥
+IsExtendAt s (blanks q) = ⊥
+IsExtendAt s (calls q) = ⊥
+IsExtendAt s (extends q) = q / 2 ≡ s
+
+-- a call that makes a member of boundary s anew
+abbrev pub IsBlankAt : ℕ → RackCall → Type 0
+IsBlankAt s (looks q) = ⊥
+IsBlankAt s (blanks q) = q / 2 ≡ s
+IsBlankAt s (calls q) = ⊥
+IsBlankAt s (extends q) = ⊥
+
+-- a call that reads or writes a member that isn't out
 abbrev pub IsCallOf : (ℕ → MemberState) → RackCall → Type 0
 IsCallOf members (looks q) = ⊥
 IsCallOf members (blanks q) = ⊥
 IsCallOf members (calls q) = members q ≢ Out
+IsCallOf members (extends q) = ⊥
+
+-- a call that extends a member that isn't out
+abbrev pub IsExtendOf : (ℕ → MemberState) → RackCall → Type 0
+IsExtendOf members (looks q) = ⊥
+IsExtendOf members (blanks q) = ⊥
+IsExtendOf members (calls q) = ⊥
+IsExtendOf members (extends q) = members q ≢ Out
 
 -- a call that makes member p anew
 abbrev pub IsBlankOf : ℕ → RackCall → Type 0
 IsBlankOf p (looks q) = ⊥
 IsBlankOf p (blanks q) = q ≡ p
 IsBlankOf p (calls q) = ⊥
+IsBlankOf p (extends q) = ⊥
 
--- What a call over a rack leaves. `expected` is what the members do where no call on one of them fails.
-pub record LeavesBoundary {S : Type 0} (rack : Ghosts S) (number l slots : ℕ) (expected : ℕ → MemberState) (new : Boundary) (before now : S) : Type 0 where
+-- What a call over a rack leaves. `may` is which calls were made of the rack, and `expected` is what the members do where none of these on one of them fails.
+pub record LeavesBoundary {S : Type 0} (rack : Ghosts S) (may : RackCall → Type 0) (number l slots : ℕ) (expected : ℕ → MemberState) (new : Boundary) (before now : S) : Type 0 where
   pub pair : IsPair number l slots new
   -- each member does what is expected, or has fallen
   pub falls : MembersFall (rack.counts before).faults (rack.counts now).faults expected (members_of new)
@@ -60,8 +84,8 @@ pub record LeavesBoundary {S : Type 0} (rack : Ghosts S) (number l slots : ℕ) 
   pub other_bytes : (q : ℕ) → q / 2 ≢ number → Told IsSame (rack.bytes before q) (rack.bytes now q)
   pub other_faults : (q : ℕ) → q / 2 ≢ number → (rack.counts now).faults q ≡ (rack.counts before).faults q
   pub others_stand : (q : ℕ) → q / 2 ≢ number → rack.stands before q ≡ true → rack.stands now q ≡ true
-  -- the calls were on its members alone, and a member whose call failed is out
-  pub made : MadeOnly rack (IsCallAt number) before now
+  -- such calls were made alone, and a member whose call failed is out
+  pub made : MadeOnly rack may before now
   pub fell : (q : ℕ) → (rack.counts before).faults q < (rack.counts now).faults q → members_of new q ≡ Out
   -- no count fell, what is told now was told before, and it is the same rack
   pub rise : CountsRise (rack.counts before) (rack.counts now)
@@ -69,9 +93,17 @@ pub record LeavesBoundary {S : Type 0} (rack : Ghosts S) (number l slots : ℕ) 
   pub same_rack : rack.name now ≡ rack.name before
   pub steady_on : rack.steady before ↔ rack.steady now
 
--- the same of a boundary that was there
+-- the same of calls on the members of a boundary that was there
 abbrev pub LeavesPair : {S : Type 0} → Ghosts S → (ℕ → MemberState) → Boundary → Boundary → S → S → Type 0
-LeavesPair rack expected old new before now = LeavesBoundary rack (number_of old) (size_of old) (slots_of old) expected new before now
+LeavesPair rack expected old new before now = LeavesBoundary rack (IsCallAt (number_of old)) (number_of old) (size_of old) (slots_of old) expected new before now
+
+-- the same where a member of it was extended
+abbrev pub ExtendsPair : {S : Type 0} → Ghosts S → (ℕ → MemberState) → Boundary → Boundary → S → S → Type 0
+ExtendsPair rack expected old new before now = LeavesBoundary rack (IsExtendAt (number_of old)) (number_of old) (size_of old) (slots_of old) expected new before now
+
+-- the same where a member of it was made anew
+abbrev pub BlanksPair : {S : Type 0} → Ghosts S → (ℕ → MemberState) → Boundary → Boundary → S → S → Type 0
+BlanksPair rack expected old new before now = LeavesBoundary rack (IsBlankAt (number_of old)) (number_of old) (size_of old) (slots_of old) expected new before now
 
 -- each member is as long as it was, and its bytes before its slots and behind them are as they were
 abbrev pub KeepsBeside : ℕ → ℕ → (ℕ → Option (List ℕ)) → (ℕ → Option (List ℕ)) → Type 0

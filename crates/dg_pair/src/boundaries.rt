@@ -7,7 +7,7 @@ ghost use Rattle.dg_io.specs.RackCalls.{RackCall};
 ghost use Rattle.dg_io.specs.RackWords.{MadeOnly};
 ghost use Rattle.dg_io.specs.Faults.{OnlyMember};
 ghost use Rattle.dg_pair.specs.Boundaries.{members_of, number_of, size_of, slots_of, IsWell, MembersFit, MembersStand, goods_in, servers_in, unfilled, raised, completed, IsFilling, HasNext};
-ghost use Rattle.dg_pair.specs.Calls.{IsPair, KeepsPair, LeavesBoundary, LeavesPair, IsCallOf, IsBlankOf, KeepsBeside, begun, replaced, copied};
+ghost use Rattle.dg_pair.specs.Calls.{BlanksPair, ExtendsPair, IsPair, KeepsPair, LeavesBoundary, LeavesPair, IsBlankAt, IsBlankOf, IsCallOf, IsExtendOf, KeepsBeside, begun, replaced, copied};
 
 use crate::changes::{extend_any, fail_any, note_any};
 use crate::reads::read_any;
@@ -137,7 +137,7 @@ impl Boundary {
     pub fn new<R: Rack>(rack: &mut R, number: u8, l: u32, slots: u32, size: u64) -> Boundary
         requires number { number < 128 }
         requires size { 512 + slots * l ≤ size }
-        ensures leaves { LeavesBoundary R.Rack number l slots (begun number) result rack.old rack.new }
+        ensures leaves { LeavesBoundary R.Rack (IsBlankAt number) number l slots (begun number) result rack.old rack.new }
         ensures made { R.made rack.old (RackCall.blanks (2 * number) ∷ RackCall.blanks (2 * number + 1) ∷ []) rack.new }
         ensures blank { (q : ℕ) → members_of result q ≡ MemberState.Good → Told (IsZeros size) (R.bytes rack.old q) (R.bytes rack.new q) }
         ensures most { (R.counts rack.new).calls ≤ (R.counts rack.old).calls + 2 }
@@ -260,7 +260,7 @@ impl Boundary {
         requires size { 512 + slots_of self.old * size_of self.old ≤ size }
         requires room { MembersFit (size_of self.old) (slots_of self.old) (members_of self.old) (R.bytes rack.old) }
         requires stand { MembersStand (members_of self.old) (R.stands rack.old) }
-        ensures leaves { LeavesPair R.Rack (replaced result (2 * number_of self.old + side) (members_of self.old)) self.old self.new rack.old rack.new }
+        ensures leaves { BlanksPair R.Rack (replaced result (2 * number_of self.old + side) (members_of self.old)) self.old self.new rack.old rack.new }
         ensures made { MadeOnly R.Rack (IsBlankOf (2 * number_of self.old + side)) rack.old rack.new }
         ensures lost { (result ≡ ReplaceAnswer.Lost) ↔ (is_lost (members_of self.old) (number_of self.old) ≡ true) }
         ensures not_out { (result ≡ ReplaceAnswer.NotOut) ↔ (members_of self.old (2 * number_of self.old + side) ≢ MemberState.Out) }
@@ -404,8 +404,8 @@ impl Boundary {
             → IfSome (R.bytes rack.old (2 * number_of self.old + side)) (FitsIn length) }
         requires room { MembersFit (size_of self.old) (slots_of self.old) (members_of self.old) (R.bytes rack.old) }
         requires stand { MembersStand (members_of self.old) (R.stands rack.old) }
-        ensures leaves { LeavesPair R.Rack (members_of self.old) self.old self.new rack.old rack.new }
-        ensures made { MadeOnly R.Rack (IsCallOf (members_of self.old)) rack.old rack.new }
+        ensures leaves { ExtendsPair R.Rack (members_of self.old) self.old self.new rack.old rack.new }
+        ensures made { MadeOnly R.Rack (IsExtendOf (members_of self.old)) rack.old rack.new }
         ensures not_good { (result ≡ ExtendAnswer.NotGood) ↔ (members_of self.old (2 * number_of self.old + side) ≢ MemberState.Good) }
         ensures stays { result ≢ ExtendAnswer.Fell → (q : ℕ) → members_of self.new q ≡ members_of self.old q }
         ensures out { result ≡ ExtendAnswer.Fell → members_of self.new (2 * number_of self.old + side) ≡ MemberState.Out }

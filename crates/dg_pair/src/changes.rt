@@ -118,7 +118,7 @@ pub fn extend_any<R: Rack>(
         → IfSome (R.bytes rack.old (2 * number_of boundary + side)) (FitsIn size) }
     requires stand { Stand boundary (R.stands rack.old) }
     ensures leaves { LeavesCase R.Rack boundary result.0 rack.old rack.new }
-    ensures made { result.1 ≢ ExtendAnswer.NotGood → R.made rack.old (RackCall.calls (2 * number_of boundary + side) ∷ []) rack.new }
+    ensures made { result.1 ≢ ExtendAnswer.NotGood → R.made rack.old (RackCall.extends (2 * number_of boundary + side) ∷ []) rack.new }
     ensures not_good { (result.1 ≡ ExtendAnswer.NotGood) ↔ (members_of boundary (2 * number_of boundary + side) ≢ MemberState.Good) }
     ensures stays { result.1 ≢ ExtendAnswer.Fell → (q : ℕ) → members_of result.0 q ≡ members_of boundary q }
     ensures out { result.1 ≡ ExtendAnswer.Fell → members_of result.0 (2 * number_of boundary + side) ≡ MemberState.Out }

@@ -208,7 +208,7 @@ impl Member<Good> {
         requires stand { R.stands rack.old self.number ≡ true }
         ensures is { GoodIs self.number self.l self.slots result }
         ensures bytes { ExtendedIs size (R.bytes rack.old self.number) (R.bytes rack.new self.number) result }
-        ensures made { R.made rack.old (RackCall.calls self.number ∷ []) rack.new }
+        ensures made { R.made rack.old (RackCall.extends self.number ∷ []) rack.new }
         ensures leaves { Leaves R.Rack self.number (answer_of result) rack.old rack.new }
         ensures writes { RoseByOne (R.counts rack.old).writes (R.counts rack.new).writes }
     {

@@ -219,7 +219,7 @@ impl<R: Rack> Rack for GroupRack<R> {
         requires longer { IfSome (grouped_bytes R.Rack self.old member) (FitsIn length) }
         ensures ok { OnOk result (Told (Extended length) (grouped_bytes R.Rack self.old member) (grouped_bytes R.Rack self.new member)) }
         ensures err { OnErr result (Told KeepsFront (grouped_bytes R.Rack self.old member) (grouped_bytes R.Rack self.new member)) }
-        ensures made { GroupedMade R.Rack self.old (RackCall.calls member ∷ []) self.new }
+        ensures made { GroupedMade R.Rack self.old (RackCall.extends member ∷ []) self.new }
         ensures leaves { Leaves (grouped_words R.Rack) member result self.old self.new }
         ensures writes { RoseByOne (grouped_counts R.Rack self.old).writes (grouped_counts R.Rack self.new).writes }
         ensures shape { IsShaped self.old self.new }

@@ -204,7 +204,7 @@ impl<R: Rack> Rack for ParityRack<R> {
         requires longer { IfSome (parity_bytes R.Rack self.old member) (FitsIn length) }
         ensures ok { OnOk result (Told (Extended length) (parity_bytes R.Rack self.old member) (parity_bytes R.Rack self.new member)) }
         ensures err { OnErr result (Told KeepsFront (parity_bytes R.Rack self.old member) (parity_bytes R.Rack self.new member)) }
-        ensures made { ParityMade R.Rack self.old (RackCall.calls member ∷ []) self.new }
+        ensures made { ParityMade R.Rack self.old (RackCall.extends member ∷ []) self.new }
         ensures leaves { Leaves (parity_words R.Rack) member result self.old self.new }
         ensures writes { RoseByOne (parity_counts R.Rack self.old).writes (parity_counts R.Rack self.new).writes }
         ensures shape { IsShaped self.old self.new }

@@ -2,6 +2,7 @@ mod CutLemmas
 mod DropLemmas
 mod ExtraLemmas
 mod FrontBytes
+mod FrontCalls
 mod FrontCommits
 mod FrontLists
 mod LawLemmas

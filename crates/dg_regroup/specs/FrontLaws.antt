@@ -1,13 +1,15 @@
 -- Calls of a rack of which some members show their first bytes alone leave what each of them leaves.
-use Rattle.std.proofs.Common.{◌≡◌, ◌∙◌, ℕ, Bool, true, false, List, [], ◌++◌, Option, None, Some, IsSome, refl, sym, ap, subst, arith}
+use Rattle.std.proofs.Common.{◌≡◌, ◌∙◌, ℕ, Bool, true, false, List, [], ◌∷◌, ◌++◌, Option, None, Some, IsSome, inl, inr, length, refl, sym, ap, subst, arith}
 use Rattle.dg_io.specs.Kept.{KeepsOn}
 use Rattle.dg_io.specs.MadeLaws.{each_back, each_front}
-use Rattle.dg_io.specs.RackCalls.{RackCall}
+use Rattle.dg_io.specs.Disks.{DiskStates, DisksAfter}
+use Rattle.dg_io.specs.RackCalls.{Each, IsNoBlank, IsNoBlankAt, IsNotAt, IsNotOn, RackCall}
+use Rattle.dg_io.specs.RackCalls.RackCall.{looks, blanks, calls, extends}
 use Rattle.dg_io.specs.RackWords.{After}
 use Rattle.dg_io.specs.Told.{IsSame, Told}
 use Rattle.dg_io.specs.declared.outside.Rack.{Ghosts}
 use Rattle.dg_regroup.specs.FrontGhosts.{front}
-use Rattle.dg_regroup.specs.FrontMade.{FrontMade}
+use Rattle.dg_regroup.specs.FrontMade.{AreFor, FrontMade, IsFor}
 use Rattle.dg_regroup.specs.FrontRacks.{front_keeps, front_of, is_front, shown}
 use Rattle.dg_regroup.specs.declared.front_racks.FrontRack.{FrontRack}
 
@@ -38,28 +40,72 @@ pub front_told : {R : Type 0} (bytes : R → ℕ → Option (List ℕ)) (stands 
     → IsSome (shown (is_front s q) s.length (bytes s.rack q))
 front_told bytes stands tells law s q told stand = is_shown (is_front s q) s.length (bytes s.rack q) (law s.rack q told stand)
 
+-- ---- calls below
+
+-- what holds of an extend, and holds of a read in its place
+for_one : (may : RackCall → Type 0) → ((q : ℕ) → may (extends q) → may (calls q)) → (call below : RackCall) → IsFor call below → may call → may below
+for_one may less (looks q) below is h = subst may (sym is) h
+for_one may less (blanks q) below is h = subst may (sym is) h
+for_one may less (calls q) below is h = subst may (sym is) h
+for_one may less (extends q) below (inl is) h = subst may (sym is) h
+for_one may less (extends q) below (inr is) h = subst may (sym is) (less q h)
+
+-- what holds of each call holds of each below
+pub each_for : (may : RackCall → Type 0) → ((q : ℕ) → may (extends q) → may (calls q)) → (made below : List RackCall) → AreFor made below → Each may made → Each may below
+each_for may less [] [] are each = tt
+each_for may less [] (below ∷ others) are each = absurd are
+each_for may less (call ∷ rest) [] are each = absurd are
+each_for may less (call ∷ rest) (below ∷ others) are each = (for_one may less call below are.0 each.0, each_for may less rest others are.1 each.1)
+
+for_count : (made below : List RackCall) → AreFor made below → length below ≡ length made
+for_count [] [] are = refl
+for_count [] (below ∷ others) are = absurd are
+for_count (call ∷ rest) [] are = absurd are
+for_count (call ∷ rest) (below ∷ others) are = let e = for_count rest others are.1 in omega (arith, e)
+
+for_both : (x y v w : List RackCall) → AreFor x v → AreFor y w → AreFor (x ++ y) (v ++ w)
+for_both [] y [] w first second = second
+for_both [] y (below ∷ others) w first second = absurd first
+for_both (call ∷ rest) y [] w first second = absurd first
+for_both (call ∷ rest) y (below ∷ others) w first second = (first.0, for_both rest y others w first.1 second)
+
+for_disks : (made below : List RackCall) (old new : DiskStates) → AreFor made below → DisksAfter below old new → DisksAfter made old new
+for_disks made below old new are after = record {
+  rises = after.rises;
+  stays = λ s j each was. after.stays s j (each_for (IsNoBlankAt s) (λ q h. h) made below are each) was;
+  others = λ s each. after.others s (each_for (IsNotAt s) (λ q h. h) made below are each);
+}
+
 module _ {R : Type 0} (rack : Ghosts R) where
   pub front_none : ((s : R) → rack.made s [] s) → (s : FrontRack R) → FrontMade rack s [] s
   front_none none s = record {
     length = refl;
+    passed = [];
+    are_for = tt;
     below = none s.rack;
     same_front = λ q each. refl;
     same_fronts = λ each q. refl;
     rise = λ q. omega arith;
     others = λ q each. refl;
     writes = omega arith;
+    same_refused = λ each q. refl;
+    same_writes = λ each. refl;
   }
 
   pub front_both : ((a b c : R) (x y : List RackCall) → rack.made a x b → rack.made b y c → rack.made a (x ++ y) c)
       → (a b c : FrontRack R) (x y : List RackCall) → FrontMade rack a x b → FrontMade rack b y c → FrontMade rack a (x ++ y) c
   front_both both a b c x y first second = record {
     length = second.length ∙ first.length;
-    below = both a.rack b.rack c.rack x y first.below second.below;
+    passed = first.passed ++ second.passed;
+    are_for = for_both x y first.passed second.passed first.are_for second.are_for;
+    below = both a.rack b.rack c.rack first.passed second.passed first.below second.below;
     same_front = λ q each. second.same_front q (each_back _ x y each) ∙ first.same_front q (each_front _ x y each);
     same_fronts = λ each q. second.same_fronts (each_back _ x y each) q ∙ first.same_fronts (each_front _ x y each) q;
     rise = λ q. omega (arith, first.rise q, second.rise q);
     others = λ q each. second.others q (each_back _ x y each) ∙ first.others q (each_front _ x y each);
     writes = omega (arith, first.writes, second.writes);
+    same_refused = λ each q. second.same_refused (each_back _ x y each) q ∙ first.same_refused (each_front _ x y each) q;
+    same_writes = λ each. second.same_writes (each_back _ x y each) ∙ first.same_writes (each_front _ x y each);
   }
 
   -- what is kept below stays, and so does what members show of it
@@ -85,7 +131,8 @@ module _ {R : Type 0} (rack : Ghosts R) where
   pub front_after : ((s t : R) (made : List RackCall) → rack.made s made t → After rack made s t)
       → (a b : FrontRack R) (made : List RackCall) → FrontMade rack a made b → After (front rack) made a b
   front_after law a b made done =
-      let under = law a.rack b.rack made done.below in record {
+      let under = law a.rack b.rack done.passed done.below in
+      let not_on : (q : ℕ) → Each (IsNotOn q) made → Each (IsNotOn q) done.passed = λ q each. each_for (IsNotOn q) (λ p h. h) made done.passed done.are_for each in record {
         same_rack = under.same_rack;
         steady_on = under.steady_on;
         rise = record {
@@ -93,11 +140,11 @@ module _ {R : Type 0} (rack : Ghosts R) where
           calls = under.rise.calls;
           writes = let up = under.rise.writes in omega (arith, up, done.writes);
         };
-        most = under.most;
-        other_bytes = λ q each. shows_same a b q done.length (done.same_front q each) (under.other_bytes q each);
-        other_faults = λ q each. (let up = under.other_faults q each in let own = done.others q each in omega (arith, up, own));
-        others_stand = under.others_stand;
+        most = omega (arith, under.most, for_count made done.passed done.are_for);
+        other_bytes = λ q each. shows_same a b q done.length (done.same_front q each) (under.other_bytes q (not_on q each));
+        other_faults = λ q each. (let up = under.other_faults q (not_on q each) in let own = done.others q each in omega (arith, up, own));
+        others_stand = λ q each. under.others_stand q (not_on q each);
         told_before = under.told_before;
-        keeps_on = λ each. keeps_shown a b done.length (done.same_fronts each) (under.keeps_on each);
-        disks_after = under.disks_after;
+        keeps_on = λ each. keeps_shown a b done.length (done.same_fronts each) (under.keeps_on (each_for IsNoBlank (λ q h. h) made done.passed done.are_for each));
+        disks_after = for_disks made done.passed (rack.disks a.rack) (rack.disks b.rack) done.are_for under.disks_after;
       }

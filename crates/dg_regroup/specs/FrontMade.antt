@@ -1,7 +1,8 @@
 -- Calls that were made of a rack of which some members show their first bytes alone.
-use Rattle.std.specs.Prelude.{◌≡◌, ◌≤◌, ℕ, List, slice_index}
+use Rattle.std.specs.Prelude.{◌≡◌, ◌⊎◌, ◌≤◌, ◌∷◌, ℕ, List, [], slice_index}
 use Rattle.dg_io.specs.Disks.{DiskStates}
-use Rattle.dg_io.specs.RackCalls.{RackCall, Each, IsNoBlank, IsNotOn}
+use Rattle.dg_io.specs.RackCalls.{RackCall, Each, IsNoBlank, IsNotOn, IsReadOrWrite}
+use Rattle.dg_io.specs.RackCalls.RackCall.{looks, blanks, calls, extends}
 use Rattle.dg_io.specs.declared.outside.Rack.{Ghosts}
 use Rattle.dg_regroup.specs.FrontRacks.{is_front}
 use Rattle.dg_regroup.specs.declared.front_racks.FrontRack.{FrontRack}
@@ -10,13 +11,32 @@ use Rattle.dg_regroup.specs.declared.front_racks.FrontRack.{FrontRack}
 abbrev pub front_disks : {R : Type 0} → Ghosts R → FrontRack R → DiskStates
 front_disks rack it = rack.disks it.rack
 
--- What may have become of it by just these calls: the rack below got them, members that weren't made anew show what they did, and refused
--- calls were counted.
+-- the call that the rack below gets for this one: a member that shows its first bytes alone isn't made longer, and is read in place of that
+abbrev pub IsFor : RackCall → RackCall → Type 0
+IsFor (looks q) below = below ≡ looks q
+IsFor (blanks q) below = below ≡ blanks q
+IsFor (calls q) below = below ≡ calls q
+IsFor (extends q) below = (below ≡ extends q) ⊎ (below ≡ calls q)
+
+-- one for each of these calls, in their order
+abbrev pub AreFor : List RackCall → List RackCall → Type 0
+AreFor [] [] = Unit {0}
+AreFor [] (below ∷ others) = ⊥
+AreFor (call ∷ rest) [] = ⊥
+AreFor (call ∷ rest) (below ∷ others) = IsFor call below × AreFor rest others
+
+-- What may have become of it by just these calls: the rack below got one for each of them, members that weren't made anew show what they did, and
+-- refused calls were counted.
 pub record FrontMade {R : Type 0} (rack : Ghosts R) (old : FrontRack R) (made : List RackCall) (new : FrontRack R) : Type 0 where
   pub length : new.length ≡ old.length
-  pub below : rack.made old.rack made new.rack
+  pub passed : List RackCall
+  pub are_for : AreFor made passed
+  pub below : rack.made old.rack passed new.rack
   pub same_front : (q : ℕ) → Each (IsNotOn q) made → is_front new q ≡ is_front old q
   pub same_fronts : Each IsNoBlank made → (q : ℕ) → is_front new q ≡ is_front old q
   pub rise : (q : ℕ) → slice_index old.refused q ≤ slice_index new.refused q
   pub others : (q : ℕ) → Each (IsNotOn q) made → slice_index new.refused q ≡ slice_index old.refused q
   pub writes : old.writes ≤ new.writes
+  -- calls that read and write aren't refused
+  pub same_refused : Each IsReadOrWrite made → (q : ℕ) → slice_index new.refused q ≡ slice_index old.refused q
+  pub same_writes : Each IsReadOrWrite made → new.writes ≡ old.writes

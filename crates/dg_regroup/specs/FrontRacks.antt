@@ -72,6 +72,14 @@ abbrev pub front_keeps : {R : Type 0} → Ghosts R → FrontRack R → Option Ke
 front_keeps rack it None = (below : Option Kept) × rack.keeps it.rack below
 front_keeps rack it (Some kept) = (below : Kept) × rack.keeps it.rack (Some below) × IsKeptShown it below kept
 
+-- What a commit may leave of it, beside its members: what it may leave of the rack below, and nothing else has changed.
+pub record FrontCommits {R : Type 0} (commits : R → R → Type 0) (old new : FrontRack R) : Type 0 where
+  pub below : commits old.rack new.rack
+  pub length : new.length ≡ old.length
+  pub fronts : new.fronts ≡ old.fronts
+  pub refused : new.refused ≡ old.refused
+  pub writes : new.writes ≡ old.writes
+
 -- ---- the checkpoint's room, and the groups of disks
 
 abbrev pub front_room : {R : Type 0} → (R → Option ℕ) → FrontRack R → Option ℕ

@@ -15,3 +15,4 @@ pub mod LivePlaces
 pub mod LiveRacks
 pub mod Marks
 pub mod PlaceTables
+pub mod Ties

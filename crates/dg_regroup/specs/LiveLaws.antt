@@ -8,7 +8,7 @@ use Rattle.dg_io.specs.Disks.{DisksAfter, IsGroupSame}
 use Rattle.dg_io.specs.Kept.{KeepsOn}
 use Rattle.dg_io.specs.MadeLaws.{each_back, each_front}
 use Rattle.dg_io.specs.RackCalls.{RackCall, Each, IsNoBlank, IsNoBlankAt, IsNotAt, IsNotOn}
-use Rattle.dg_io.specs.RackCalls.RackCall.{looks, blanks, calls}
+use Rattle.dg_io.specs.RackCalls.RackCall.{looks, blanks, calls, extends}
 use Rattle.dg_io.specs.RackWords.{After}
 use Rattle.dg_io.specs.Told.{IsSame, Told}
 use Rattle.dg_io.specs.declared.outside.Rack.{Ghosts}
@@ -74,6 +74,7 @@ module _ {R : Type 0} (rack : Ghosts R) where
     one (looks p) there differ = member_differs a.live.items p q a.ascend there here differ
     one (blanks p) there differ = member_differs a.live.items p q a.ascend there here differ
     one (calls p) there differ = member_differs a.live.items p q a.ascend there here differ
+    one (extends p) there differ = member_differs a.live.items p q a.ascend there here differ
 
   no_blank : (live : List ℕ) (made : List RackCall) → Each IsNoBlank made → Each IsNoBlank (calls_below live made)
   no_blank live made each = each_below live IsNoBlank IsNoBlank one made each where
@@ -81,6 +82,7 @@ module _ {R : Type 0} (rack : Ghosts R) where
     one (looks p) there is = tt
     one (blanks p) there is = is
     one (calls p) there is = tt
+    one (extends p) there is = tt
 
   -- ---- disks
 
@@ -96,6 +98,7 @@ module _ {R : Type 0} (rack : Ghosts R) where
     one (looks q) there is = tt
     one (blanks q) there differ = other_group live s q rise within there differ
     one (calls q) there is = tt
+    one (extends q) there is = tt
 
   not_at : (live : List ℕ) (s : ℕ) → IsStrictlyIncreasing live → s < length live → (made : List RackCall) → Each (IsNotAt s) made → Each (IsNotAt (boundary_at live s)) (calls_below live made)
   not_at live s rise within made each = each_below live (IsNotAt s) (IsNotAt (boundary_at live s)) one made each where
@@ -103,6 +106,7 @@ module _ {R : Type 0} (rack : Ghosts R) where
     one (looks q) there differ = other_group live s q rise within there differ
     one (blanks q) there differ = other_group live s q rise within there differ
     one (calls q) there differ = other_group live s q rise within there differ
+    one (extends q) there differ = other_group live s q rise within there differ
 
   disks_through : (a b : LiveRack R) (made : List RackCall) → b.live ≡ a.live → DisksAfter (calls_below a.live.items made) (rack.disks a.rack) (rack.disks b.rack)
       → DisksAfter made (live_disks rack a) (live_disks rack b)

@@ -1,7 +1,7 @@
 -- Calls that were made of a rack of the boundaries in use.
 use Rattle.std.specs.Prelude.{◌≡◌, ◌+◌, ◌≤◌, ℕ, Bool, not, List, filter, length, map, slice_index}
 use Rattle.dg_io.specs.RackCalls.{RackCall, Each, IsNotOn, member_of}
-use Rattle.dg_io.specs.RackCalls.RackCall.{looks, blanks, calls}
+use Rattle.dg_io.specs.RackCalls.RackCall.{looks, blanks, calls, extends}
 use Rattle.dg_io.specs.declared.outside.Rack.{Ghosts}
 use Rattle.dg_model.specs.Lives.{member_at}
 use Rattle.dg_regroup.specs.LiveRacks.{is_there}
@@ -12,6 +12,7 @@ abbrev pub call_below : List ℕ → RackCall → RackCall
 call_below live (looks q) = looks (member_at live q)
 call_below live (blanks q) = blanks (member_at live q)
 call_below live (calls q) = calls (member_at live q)
+call_below live (extends q) = extends (member_at live q)
 
 -- whether the call is one on a member that is there
 abbrev pub is_passed : List ℕ → RackCall → Bool

@@ -96,6 +96,14 @@ live_disks rack it = record {
   faults = λ s j. if nat_lt s (length it.live.items) then (rack.disks it.rack).faults (boundary_at it.live.items s) j else 0;
 }
 
+-- What a commit may leave of it, beside its members: what it may leave of the rack below, and nothing else has changed.
+pub record LiveCommits {R : Type 0} (commits : R → R → Type 0) (old new : LiveRack R) : Type 0 where
+  pub below : commits old.rack new.rack
+  pub live : new.live ≡ old.live
+  pub absent : new.absent ≡ old.absent
+  pub calls : new.calls ≡ old.calls
+  pub writes : new.writes ≡ old.writes
+
 -- ---- the checkpoint's room, and the groups of disks
 
 abbrev pub live_room : {R : Type 0} → (R → Option ℕ) → LiveRack R → Option ℕ

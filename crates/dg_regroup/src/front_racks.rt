@@ -86,14 +86,14 @@ impl<R: Rack> FrontRack<R> {
     ghost use Rattle.dg_regroup.specs.FrontMade.{FrontMade};
     ghost use Rattle.dg_regroup.specs.FrontRacks.{front_bytes, front_counts, rack_behind};
 
-    /// A member that shows its first bytes alone isn't made longer: what stands behind them is not all zeros. So that this call
-    /// is one of the rack below too, no bytes of the member are read.
+    /// A member that shows its first bytes alone isn't made longer: what stands behind them is not all zeros. So that the rack below
+    /// gets a call for this one too, no bytes of the member are read.
     fn refuse(&mut self, member: u8) -> Result<(), Failed>
         requires stands { R.stands (rack_behind self.old) member ≡ true }
         ensures err { IsErr result }
         ensures same { Told IsSame (front_bytes R.Rack self.old member) (front_bytes R.Rack self.new member) }
         ensures leaves { Leaves (front R.Rack) member result self.old self.new }
-        ensures made { FrontMade R.Rack self.old (RackCall.calls member ∷ []) self.new }
+        ensures made { FrontMade R.Rack self.old (RackCall.extends member ∷ []) self.new }
         ensures writes { RoseByOne (front_counts R.Rack self.old).writes (front_counts R.Rack self.new).writes }
     {
         self.writes = self.writes.saturating_add(1);
@@ -166,9 +166,11 @@ impl<R: Rack> Rack for FrontRack<R> {
 }
 
 impl<R: Checkpoint> Checkpoint for FrontRack<R> {
-    ghost use Rattle.dg_regroup.specs.FrontRacks.{front_room};
+    ghost use Rattle.dg_regroup.specs.FrontRacks.{FrontCommits, front_room};
 
     ghost room_of = { front_room R.room_of };
+
+    ghost commits = { FrontCommits R.commits };
 
     fn commit(&mut self, keep: u32, extra: &[u8]) -> CommitAnswer {
         self.rack.commit(keep, extra)

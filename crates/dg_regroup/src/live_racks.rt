@@ -241,9 +241,11 @@ impl<R: Rack> Reduces for LiveRack<R> {
 }
 
 impl<R: Checkpoint> Checkpoint for LiveRack<R> {
-    ghost use Rattle.dg_regroup.specs.LiveRacks.{live_room};
+    ghost use Rattle.dg_regroup.specs.LiveRacks.{LiveCommits, live_room};
 
     ghost room_of = { live_room R.room_of };
+
+    ghost commits = { LiveCommits R.commits };
 
     fn commit(&mut self, keep: u32, extra: &[u8]) -> CommitAnswer {
         let below = marks_below(&self.live, keep);

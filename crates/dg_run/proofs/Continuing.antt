@@ -9,7 +9,7 @@ use Rattle.dg_io.specs.Makes.{Makes}
 use Rattle.dg_io.specs.MakesLaws.{makes_both, makes_made, makes_none}
 use Rattle.dg_io.specs.MadeLaws.{each_such}
 use Rattle.dg_io.specs.RackCalls.{RackCall, IsNotOn}
-use Rattle.dg_io.specs.RackCalls.RackCall.{blanks, calls, looks}
+use Rattle.dg_io.specs.RackCalls.RackCall.{blanks, calls, extends, looks}
 use Rattle.dg_io.specs.RackWords.{After}
 use Rattle.dg_io.specs.Reduced.{places_left}
 use Rattle.dg_io.specs.Told.{IsSame, Told}
@@ -22,13 +22,15 @@ use Rattle.dg_regroup.specs.LiveRacks.{DropsBoundaries, live_count, live_in, rac
 use Rattle.dg_regroup.specs.declared.live_racks.LiveRack.{LiveRack}
 use Rattle.dg_run.proofs.Segments.{Begins, Segment, segment}
 use Rattle.dg_run.specs.Histories.{Continues, IsReady, TellsLine, below_of, boundaries_of, live_of}
-use Rattle.dg_run.specs.Steps.{rack_of, shape_of}
+use Rattle.dg_run.specs.Steps.{GoesReplaced, GoesSaved, rack_of, shape_of}
 use Rattle.dg_run.specs.declared.arrays.Array.{Array}
-use Rattle.dg_store.specs.Leaves.{IsCallBelow}
+use Rattle.dg_store.specs.Leaves.{IsAnyCallBelow, IsCallBelow, IsCallOrBlankBelow, IsCallOrExtendBelow}
+use Rattle.dg_store.specs.ReadLaws.{any_of_blank, any_of_call, any_of_extend, own_such}
 use Rattle.dg_store.specs.Reduced.{left_in}
 use Rattle.dg_store.specs.Stores as stores
+use Rattle.dg_volume.specs.HeldLaws.{leaves_such}
 use Rattle.dg_volume.specs.Regroups.{GoesOn, KeepsOrLeaves, TakesOut}
-use Rattle.dg_volume.specs.Volumes.{Leaves, any_phase}
+use Rattle.dg_volume.specs.Volumes.{Leaves, LeavesBy, any_phase}
 use Rattle.dg_volume.specs.Volumes as volumes
 
 -- ---- lists
@@ -108,38 +110,39 @@ module _ {R : Type 0} (rack : Ghosts R) (none : (s : R) → rack.made s [] s) (b
   pub same_name : (may : RackCall → Type 0) (x y : R) → Makes rack may x y → rack.name y ≡ rack.name x
   same_name may x y made = let whole = makes_made rack may none both x y made in (law x y whole.calls whole.made).same_rack
 
-  not_on : (bound p : ℕ) → bound ≤ p / 2 → (call : RackCall) → IsCallBelow bound call → IsNotOn p call
+  not_on : (bound p : ℕ) → bound ≤ p / 2 → (call : RackCall) → IsAnyCallBelow bound call → IsNotOn p call
   not_on bound p past (looks q) low = absurd low
   not_on bound p past (blanks q) low = λ same. omega (arith, past, low, same)
   not_on bound p past (calls q) low = λ same. omega (arith, past, low, same)
+  not_on bound p past (extends q) low = λ same. omega (arith, past, low, same)
 
-  pub others_same : (bound : ℕ) (x y : R) → Makes rack (IsCallBelow bound) x y → (p : ℕ) → bound ≤ p / 2 → Told IsSame (rack.bytes x p) (rack.bytes y p)
+  pub others_same : (bound : ℕ) (x y : R) → Makes rack (IsAnyCallBelow bound) x y → (p : ℕ) → bound ≤ p / 2 → Told IsSame (rack.bytes x p) (rack.bytes y p)
   others_same bound x y made p past =
-      let whole = makes_made rack (IsCallBelow bound) none both x y made in
-      (law x y whole.calls whole.made).other_bytes p (each_such (IsCallBelow bound) (IsNotOn p) (not_on bound p past) whole.calls whole.each)
+      let whole = makes_made rack (IsAnyCallBelow bound) none both x y made in
+      (law x y whole.calls whole.made).other_bytes p (each_such (IsAnyCallBelow bound) (IsNotOn p) (not_on bound p past) whole.calls whole.each)
 
-  pub others_counts : (bound : ℕ) (x y : R) → Makes rack (IsCallBelow bound) x y → (p : ℕ) → bound ≤ p / 2 → (rack.counts y).faults p ≡ (rack.counts x).faults p
+  pub others_counts : (bound : ℕ) (x y : R) → Makes rack (IsAnyCallBelow bound) x y → (p : ℕ) → bound ≤ p / 2 → (rack.counts y).faults p ≡ (rack.counts x).faults p
   others_counts bound x y made p past =
-      let whole = makes_made rack (IsCallBelow bound) none both x y made in
-      (law x y whole.calls whole.made).other_faults p (each_such (IsCallBelow bound) (IsNotOn p) (not_on bound p past) whole.calls whole.each)
+      let whole = makes_made rack (IsAnyCallBelow bound) none both x y made in
+      (law x y whole.calls whole.made).other_faults p (each_such (IsAnyCallBelow bound) (IsNotOn p) (not_on bound p past) whole.calls whole.each)
 
   -- ---- an array goes on
 
   begins_of : (a : Array (LiveRack R)) → IsReady rack a → Begins (live_of a) (rack_of a)
   begins_of a ready = record { longer = ready.longer; places = ready.places }
 
-  segment_of : (a b : Array (LiveRack R)) → IsReady rack a → Leaves any_phase any_phase (live rack) a.volume b.volume → Segment rack (boundaries_of a) (rack_of a) (rack_of b)
+  segment_of : (a b : Array (LiveRack R)) → IsReady rack a → LeavesBy any_phase any_phase (live rack) IsAnyCallBelow a.volume b.volume → Segment rack (boundaries_of a) (rack_of a) (rack_of b)
   segment_of a b ready leaves =
       segment rack none both law (live_of a) (boundaries_of a) (rack_of a) (rack_of b) (begins_of a ready) ready.sound.in_use.live.within
-      (subst (λ (n : ℕ). Makes (live rack) (IsCallBelow n) (rack_of a) (rack_of b)) (sym ready.sound.in_use.number) leaves.own.made) leaves.tells
+      (subst (λ (n : ℕ). Makes (live rack) (IsAnyCallBelow n) (rack_of a) (rack_of b)) (sym ready.sound.in_use.number) leaves.own.made) leaves.tells
 
   whole_on : (a b : Array (LiveRack R)) → live_in (rack_of b) ≡ live_in (rack_of a) → live_of b ≡ live_of a → boundaries_of b ≡ boundaries_of a
       → (live_in (rack_of a) ≡ all_live 16) ⊎ (length (live_of a) < boundaries_of a) → (live_in (rack_of b) ≡ all_live 16) ⊎ (length (live_of b) < boundaries_of b)
   whole_on a b same live_is line (inl all) = inl (same ∙ all)
   whole_on a b same live_is line (inr less) = inr (omega (arith, ap length live_is, line, less))
 
-  pub continues_by : (a b : Array (LiveRack R)) → IsReady rack a → Leaves any_phase any_phase (live rack) a.volume b.volume → Continues rack a b
-  continues_by a b ready leaves =
+  continues_any : (a b : Array (LiveRack R)) → IsReady rack a → LeavesBy any_phase any_phase (live rack) IsAnyCallBelow a.volume b.volume → Continues rack a b
+  continues_any a b ready leaves =
       let s = segment_of a b ready leaves in
       let begins = begins_on (live_of a) (live_of b) (rack_of a) (rack_of b) s.live_is leaves.live (begins_of a ready) in
       record {
@@ -157,12 +160,22 @@ module _ {R : Type 0} (rack : Ghosts R) (none : (s : R) → rack.made s [] s) (b
         tells = s.tells;
       }
 
+  -- by an event that reads and writes, by one that saves, and by one that makes a member anew
+  pub continues_by : (a b : Array (LiveRack R)) → IsReady rack a → Leaves any_phase any_phase (live rack) a.volume b.volume → Continues rack a b
+  continues_by a b ready leaves = continues_any a b ready (leaves_such any_phase any_phase (live rack) IsCallBelow IsAnyCallBelow any_of_call a.volume b.volume leaves)
+
+  pub continues_saved : (a b : Array (LiveRack R)) → IsReady rack a → GoesSaved (live rack) a b → Continues rack a b
+  continues_saved a b ready leaves = continues_any a b ready (leaves_such any_phase any_phase (live rack) IsCallOrExtendBelow IsAnyCallBelow any_of_extend a.volume b.volume leaves)
+
+  pub continues_replaced : (a b : Array (LiveRack R)) → IsReady rack a → GoesReplaced (live rack) a b → Continues rack a b
+  continues_replaced a b ready leaves = continues_any a b ready (leaves_such any_phase any_phase (live rack) IsCallOrBlankBelow IsAnyCallBelow any_of_blank a.volume b.volume leaves)
+
   pub continues_none : (a : Array (LiveRack R)) → IsReady rack a → Continues rack a a
   continues_none a ready = record {
     ready = ready;
     line = refl;
     boundaries = refl;
-    made = makes_none rack (IsCallBelow (boundaries_of a)) (below_of a);
+    made = makes_none rack (IsAnyCallBelow (boundaries_of a)) (below_of a);
     tells = λ q told. told;
   }
 
@@ -171,15 +184,15 @@ module _ {R : Type 0} (rack : Ghosts R) (none : (s : R) → rack.made s [] s) (b
     ready = second.ready;
     line = second.line ∙ first.line;
     boundaries = second.boundaries ∙ first.boundaries;
-    made = makes_both rack (IsCallBelow (boundaries_of a)) (below_of a) (below_of b) (below_of c) first.made
-        (subst (λ (n : ℕ). Makes rack (IsCallBelow n) (below_of b) (below_of c)) first.boundaries second.made);
+    made = makes_both rack (IsAnyCallBelow (boundaries_of a)) (below_of a) (below_of b) (below_of c) first.made
+        (subst (λ (n : ℕ). Makes rack (IsAnyCallBelow n) (below_of b) (below_of c)) first.boundaries second.made);
     tells = λ q told. first.tells q (second.tells q told);
   }
 
   -- what the rack tells in the end of the first line's members it told before
   pub told_line : (a b : Array (LiveRack R)) → Continues rack a b → TellsLine rack b → TellsLine rack a
   told_line a b goes tells p low =
-      told_before (IsCallBelow (boundaries_of a)) (below_of a) (below_of b) goes.made p (tells p (subst (λ (n : ℕ). p / 2 < n) (sym goes.boundaries) low))
+      told_before (IsAnyCallBelow (boundaries_of a)) (below_of a) (below_of b) goes.made p (tells p (subst (λ (n : ℕ). p / 2 < n) (sym goes.boundaries) low))
 
   -- so it tells its volume's members
   pub told_volume : (a : Array (LiveRack R)) → IsReady rack a → TellsLine rack a → volumes.Tells (live rack) a.volume
@@ -208,7 +221,8 @@ module _ {R : Type 0} (rack : Ghosts R) (none : (s : R) → rack.made s [] s) (b
       let left = stores.rack_of out.left in
       let size : length (live_of a) ≡ (shape_of a).b = ready.sound.in_use.number in
       let first = segment rack none both law (live_of a) (boundaries_of a) (rack_of a) mid (begins_of a ready) ready.sound.in_use.live.within
-      (subst (λ (n : ℕ). Makes (live rack) (IsCallBelow n) (rack_of a) mid) (sym size) out.opened.own.made) out.opened.stays.tells in
+      (subst (λ (n : ℕ). Makes (live rack) (IsAnyCallBelow n) (rack_of a) mid) (sym size)
+      (own_such (live rack) IsCallBelow IsAnyCallBelow any_of_call (shape_of a).b (rack_of a) mid out.opened.own).made) out.opened.stays.tells in
       let begins_mid : Begins (live_of a) mid = begins_on (live_of a) (live_of a) (rack_of a) mid first.live_is refl (begins_of a ready) in
       let same_b : length (live_of a) ≡ (stores.shape_of out.mid).b = size ∙ sym (ap (λ s. s.b) out.opened.shape) in
       let begins_left = begins_left (live_of a) (left_in out.mid) (stores.lost_bits (stores.members_of out.mid) (stores.shape_of out.mid).b) (stores.shape_of out.mid).b mid left
@@ -227,7 +241,8 @@ module _ {R : Type 0} (rack : Ghosts R) (none : (s : R) → rack.made s [] s) (b
         own_writes_are = omega (arith, writes_same, out.leaves.writes);
         begins = begins;
         second = segment rack none both law (live_of b) (boundaries_of a) left (rack_of b) begins (subst (λ (n : ℕ). All (λ s. s < n) (live_of b)) goes.boundaries well.in_use.live.within)
-            (subst (λ (n : ℕ). Makes (live rack) (IsCallBelow n) left (rack_of b)) (sym wide) out.read.own.made) out.read.stays.tells;
+            (subst (λ (n : ℕ). Makes (live rack) (IsAnyCallBelow n) left (rack_of b)) (sym wide)
+            (own_such (live rack) IsCallBelow IsAnyCallBelow any_of_call (stores.shape_of out.left).b left (rack_of b) out.read.own).made) out.read.stays.tells;
       }
 
   fewer_out : (a b : Array (LiveRack R)) → IsReady rack a → GoesOn any_phase (live rack) a.volume b.volume
@@ -257,8 +272,8 @@ module _ {R : Type 0} (rack : Ghosts R) (none : (s : R) → rack.made s [] s) (b
         };
         line = goes.line;
         boundaries = goes.boundaries;
-        made = makes_both rack (IsCallBelow (boundaries_of a)) (below_of a) (rack_in mid) (below_of b) p.first.made
-            (subst (λ (r : R). Makes rack (IsCallBelow (boundaries_of a)) r (below_of b)) p.same p.second.made);
+        made = makes_both rack (IsAnyCallBelow (boundaries_of a)) (below_of a) (rack_in mid) (below_of b) p.first.made
+            (subst (λ (r : R). Makes rack (IsAnyCallBelow (boundaries_of a)) r (below_of b)) p.same p.second.made);
         tells = λ q told. p.first.tells q (subst (λ (r : R). IsSome (rack.bytes r q)) p.same (p.second.tells q told));
       }
 
@@ -282,4 +297,4 @@ module _ {R : Type 0} (rack : Ghosts R) (none : (s : R) → rack.made s [] s) (b
       let low : slice_index (live_of a) (q / 2) < boundaries_of a = All-get_or (λ s. s < boundaries_of a) (live_of a) (q / 2) 0 place ready.sound.in_use.live.within in
       let here : member_at (live_in mid) q / 2 < boundaries_of b = omega (arith, number, low, goes.boundaries) in
       subst (λ (r : R). rack.tells r (member_at (live_in mid) q)) p.same
-      (told_before (IsCallBelow (boundaries_of a)) (rack_in (stores.rack_of out.left)) (below_of b) p.second.made (member_at (live_in mid) q) (tells (member_at (live_in mid) q) here))
+      (told_before (IsAnyCallBelow (boundaries_of a)) (rack_in (stores.rack_of out.left)) (below_of b) p.second.made (member_at (live_in mid) q) (tells (member_at (live_in mid) q) here))

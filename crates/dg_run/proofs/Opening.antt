@@ -8,7 +8,7 @@ use Rattle.dg_io.specs.MadeLaws.{each_such, same_both}
 use Rattle.dg_io.specs.Makes.{Makes}
 use Rattle.dg_io.specs.MakesLaws.{makes_made}
 use Rattle.dg_io.specs.RackCalls.{RackCall, IsNotOn}
-use Rattle.dg_io.specs.RackCalls.RackCall.{blanks, calls, looks}
+use Rattle.dg_io.specs.RackCalls.RackCall.{blanks, calls, extends, looks}
 use Rattle.dg_io.specs.RackWords.{After}
 use Rattle.dg_io.specs.Told.{IsSame, Told, Took, TookPart}
 use Rattle.dg_io.specs.declared.outside.Rack.{Ghosts}
@@ -49,7 +49,7 @@ use Rattle.dg_run.specs.declared.top.Status.TheVariants.{NoState, Unclean, Write
 use Rattle.dg_saved.specs.OpeningLaws.{had_less, next_less, reopened_on}
 use Rattle.dg_saved.specs.Saved.{FoundNoState, FoundUnclean, HasLooked, HasSource, IsKnown, IsOpenedAs, OthersKept, TellsArray, had}
 use Rattle.dg_saved.specs.Texts.{nostate_text, unclean_text}
-use Rattle.dg_store.specs.Leaves.{IsCallBelow}
+use Rattle.dg_store.specs.Leaves.{IsAnyCallBelow}
 use Rattle.dg_volume.specs.Opens.{HasOpened}
 use Rattle.dg_volume.specs.Opens as openings
 use Rattle.dg_volume.specs.Origins.{Origin, WasHeld}
@@ -110,6 +110,7 @@ module _ {R : Type 0} (rack : Ghosts R) where
   passed_by : (start : LiveRack R) → live_in start ≡ all_live 16 → (call : RackCall) → IsCallOfOpening call → is_passed (live_in start) call ≡ true
   passed_by start all (looks q) low = subst (λ (l : List ℕ). is_there l q ≡ true) (sym all) (own_there q low)
   passed_by start all (blanks q) low = absurd low
+  passed_by start all (extends q) low = absurd low
   passed_by start all (calls q) low = subst (λ (l : List ℕ). is_there l q ≡ true) (sym all) (own_there q low)
 
   suited_number : (start : LiveRack R) → live_in start ≡ all_live 16 → (q : ℕ) → q < 32 → member_at (live_in start) q < 32
@@ -118,6 +119,7 @@ module _ {R : Type 0} (rack : Ghosts R) where
   suited : (start : LiveRack R) → live_in start ≡ all_live 16 → (call : RackCall) → IsCallOfOpening call → IsCallOfOpening (call_below (live_in start) call)
   suited start all (looks q) low = suited_number start all q low
   suited start all (blanks q) low = absurd low
+  suited start all (extends q) low = absurd low
   suited start all (calls q) low = suited_number start all q low
 
   pub begun_of : (start now : LiveRack R) → live_in start ≡ all_live 16 → HasNoneAbsent start → Makes (live rack) IsCallOfOpening start now → Begun rack start now
@@ -166,6 +168,7 @@ module _ {R : Type 0} (rack : Ghosts R) (none : (s : R) → rack.made s [] s) (b
   not_on q past (looks p) low = λ same. omega (arith, past, low, same)
   not_on q past (blanks p) low = absurd low
   not_on q past (calls p) low = λ same. omega (arith, past, low, same)
+  not_on q past (extends p) low = absurd low
 
   past_same : (q : ℕ) → 32 ≤ q → Told IsSame (rack.bytes (rack_in start) q) (rack.bytes (rack_in now) q)
   past_same q past =
@@ -401,10 +404,10 @@ module _ {R : Type 0} (rack : Ghosts R) (none : (s : R) → rack.made s [] s) (b
     }
 
     pub name_then : rack.name (below_of b) ≡ rack.name (rack_in start)
-    name_then = same_name rack none both law (IsCallBelow (boundaries_of a)) (below_of a) (below_of b) goes.made ∙ name_first rack none both law start (rack_of a) begun
+    name_then = same_name rack none both law (IsAnyCallBelow (boundaries_of a)) (below_of a) (below_of b) goes.made ∙ name_first rack none both law start (rack_of a) begun
 
     pub rise : CountsRise (rack.counts (below_of a)) (rack.counts (below_of b))
-    rise = rises rack none both law (IsCallBelow (boundaries_of a)) (below_of a) (below_of b) goes.made
+    rise = rises rack none both law (IsAnyCallBelow (boundaries_of a)) (below_of a) (below_of b) goes.made
 
     -- the members behind the array's own were left alone
     pub others : OthersKept (met_by met) opened.saved.table

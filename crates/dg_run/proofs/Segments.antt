@@ -8,7 +8,7 @@ use Rattle.dg_io.specs.Makes.{Makes}
 use Rattle.dg_io.specs.MakesLaws.{makes_made, makes_such}
 use Rattle.dg_io.specs.MadeLaws.{each_such}
 use Rattle.dg_io.specs.RackCalls.{RackCall, IsNotOn}
-use Rattle.dg_io.specs.RackCalls.RackCall.{blanks, calls, looks}
+use Rattle.dg_io.specs.RackCalls.RackCall.{blanks, calls, extends, looks}
 use Rattle.dg_io.specs.RackWords.{After}
 use Rattle.dg_io.specs.Told.{IsSame, StillTold, Told}
 use Rattle.dg_io.specs.declared.outside.Rack.{Ghosts}
@@ -18,7 +18,7 @@ use Rattle.dg_regroup.specs.LiveMade.{call_below, is_passed}
 use Rattle.dg_regroup.specs.LivePassing.{own_calls, own_writes, passes_on}
 use Rattle.dg_regroup.specs.LiveRacks.{is_there, live_in, rack_in}
 use Rattle.dg_regroup.specs.declared.live_racks.LiveRack.{LiveRack}
-use Rattle.dg_store.specs.Leaves.{IsCallBelow}
+use Rattle.dg_store.specs.Leaves.{IsAnyCallBelow}
 
 -- a number stands in a list, or nowhere
 find_number : (numbers : List ℕ) (s : ℕ) → ((x : ℕ) × (x < length numbers) × (slice_index numbers x ≡ s)) ⊎ ((x : ℕ) → x < length numbers → slice_index numbers x ≢ s)
@@ -42,6 +42,7 @@ abbrev IsCallAmong : List ℕ → RackCall → Type 0
 IsCallAmong numbers (looks p) = ⊥
 IsCallAmong numbers (blanks p) = (q : ℕ) × (q / 2 < length numbers) × (p ≡ member_at numbers q)
 IsCallAmong numbers (calls p) = (q : ℕ) × (q / 2 < length numbers) × (p ≡ member_at numbers q)
+IsCallAmong numbers (extends p) = (q : ℕ) × (q / 2 < length numbers) × (p ≡ member_at numbers q)
 
 -- a place before the end is one of a member that is there
 pub there_by : (numbers : List ℕ) (q : ℕ) → q / 2 < length numbers → is_there numbers q ≡ true
@@ -50,12 +51,15 @@ there_by numbers q low = grind (arith, nat_tests)
 half : (n q : ℕ) → (2 * n + q % 2) / 2 ≡ n
 half n q = omega arith
 
-among_below : (numbers : List ℕ) (bound : ℕ) → All (λ s. s < bound) numbers → (call : RackCall) → IsCallAmong numbers call → IsCallBelow bound call
+among_below : (numbers : List ℕ) (bound : ℕ) → All (λ s. s < bound) numbers → (call : RackCall) → IsCallAmong numbers call → IsAnyCallBelow bound call
 among_below numbers bound low (looks p) h = absurd h
 among_below numbers bound low (blanks p) h =
     let less : slice_index numbers (h.0 / 2) < bound = All-get_or (λ s. s < bound) numbers (h.0 / 2) 0 h.1 low in
     omega (arith, less, half (slice_index numbers (h.0 / 2)) h.0, h.2)
 among_below numbers bound low (calls p) h =
+    let less : slice_index numbers (h.0 / 2) < bound = All-get_or (λ s. s < bound) numbers (h.0 / 2) 0 h.1 low in
+    omega (arith, less, half (slice_index numbers (h.0 / 2)) h.0, h.2)
+among_below numbers bound low (extends p) h =
     let less : slice_index numbers (h.0 / 2) < bound = All-get_or (λ s. s < bound) numbers (h.0 / 2) 0 h.1 low in
     omega (arith, less, half (slice_index numbers (h.0 / 2)) h.0, h.2)
 
@@ -64,6 +68,7 @@ among_not : (numbers : List ℕ) (p : ℕ) → ((x : ℕ) → x < length numbers
 among_not numbers p none (looks c) h = absurd h
 among_not numbers p none (blanks c) h = λ same. none (h.0 / 2) h.1 (omega (arith, same, h.2, half (slice_index numbers (h.0 / 2)) h.0))
 among_not numbers p none (calls c) h = λ same. none (h.0 / 2) h.1 (omega (arith, same, h.2, half (slice_index numbers (h.0 / 2)) h.0))
+among_not numbers p none (extends c) h = λ same. none (h.0 / 2) h.1 (omega (arith, same, h.2, half (slice_index numbers (h.0 / 2)) h.0))
 
 told_same : (old new : Option (List ℕ)) → Told IsSame old new → IsSome new → IsSome old
 told_same None None same told = told
@@ -79,25 +84,27 @@ pub record Begins {R : Type 0} (numbers : List ℕ) (x : LiveRack R) : Type 0 wh
 -- what calls on their members leave of the rack below, all of whose boundaries are below a number
 pub record Segment {R : Type 0} (rack : Ghosts R) (bound : ℕ) (x y : LiveRack R) : Type 0 where
   pub live_is : live_in y ≡ live_in x
-  pub made : Makes rack (IsCallBelow bound) (rack_in x) (rack_in y)
+  pub made : Makes rack (IsAnyCallBelow bound) (rack_in x) (rack_in y)
   pub tells : StillTold (rack.bytes (rack_in x)) (rack.bytes (rack_in y))
   pub calls : own_calls y ≡ own_calls x
   pub writes : own_writes y ≡ own_writes x
 
 module _ {R : Type 0} (rack : Ghosts R) (none : (s : R) → rack.made s [] s) (both : (a b c : R) (x y : List RackCall) → rack.made a x b → rack.made b y c → rack.made a (x ++ y) c)
     (law : (a b : R) (made : List RackCall) → rack.made a made b → After rack made a b) where
-  there : (numbers : List ℕ) (x : LiveRack R) → Begins numbers x → (call : RackCall) → IsCallBelow (length numbers) call → is_passed (live_in x) call ≡ true
+  there : (numbers : List ℕ) (x : LiveRack R) → Begins numbers x → (call : RackCall) → IsAnyCallBelow (length numbers) call → is_passed (live_in x) call ≡ true
   there numbers x begins (looks q) low = absurd low
   there numbers x begins (blanks q) low = let longer = begins.longer in grind (arith, nat_tests)
   there numbers x begins (calls q) low = let longer = begins.longer in grind (arith, nat_tests)
+  there numbers x begins (extends q) low = let longer = begins.longer in grind (arith, nat_tests)
 
   same_number : (numbers : List ℕ) (x : LiveRack R) → Begins numbers x → (q : ℕ) → q / 2 < length numbers → member_at (live_in x) q ≡ member_at numbers q
   same_number numbers x begins q low = ap (λ (n : ℕ). 2 * n + q % 2) (begins.places (q / 2) low)
 
-  among : (numbers : List ℕ) (x : LiveRack R) → Begins numbers x → (call : RackCall) → IsCallBelow (length numbers) call → IsCallAmong numbers (call_below (live_in x) call)
+  among : (numbers : List ℕ) (x : LiveRack R) → Begins numbers x → (call : RackCall) → IsAnyCallBelow (length numbers) call → IsCallAmong numbers (call_below (live_in x) call)
   among numbers x begins (looks q) low = absurd low
   among numbers x begins (blanks q) low = (q, low, same_number numbers x begins q low)
   among numbers x begins (calls q) low = (q, low, same_number numbers x begins q low)
+  among numbers x begins (extends q) low = (q, low, same_number numbers x begins q low)
 
   -- the bytes of a member below, by its place
   pub by_place : (z : LiveRack R) (q p : ℕ) → is_there (live_in z) q ≡ true → p ≡ member_at (live_in z) q → (live rack).bytes z q ≡ rack.bytes (rack_in z) p
@@ -124,13 +131,13 @@ module _ {R : Type 0} (rack : Ghosts R) (none : (s : R) → rack.made s [] s) (b
         let after = law (rack_in x) (rack_in y) whole.calls whole.made in
         told_same _ _ (after.other_bytes p (each_such (IsCallAmong numbers) (IsNotOn p) (among_not numbers p absent) whole.calls whole.each)) told
 
-  pub segment : (numbers : List ℕ) (bound : ℕ) (x y : LiveRack R) → Begins numbers x → All (λ s. s < bound) numbers → Makes (live rack) (IsCallBelow (length numbers)) x y
+  pub segment : (numbers : List ℕ) (bound : ℕ) (x y : LiveRack R) → Begins numbers x → All (λ s. s < bound) numbers → Makes (live rack) (IsAnyCallBelow (length numbers)) x y
       → StillTold ((live rack).bytes x) ((live rack).bytes y) → Segment rack bound x y
   segment numbers bound x y begins low made tells =
-      let passed = passes_on rack (IsCallBelow (length numbers)) (IsCallAmong numbers) x y (there numbers x begins) (among numbers x begins) made in
+      let passed = passes_on rack (IsAnyCallBelow (length numbers)) (IsCallAmong numbers) x y (there numbers x begins) (among numbers x begins) made in
       record {
         live_is = passed.live_is;
-        made = makes_such rack (IsCallAmong numbers) (IsCallBelow bound) (among_below numbers bound low) (rack_in x) (rack_in y) passed.below;
+        made = makes_such rack (IsCallAmong numbers) (IsAnyCallBelow bound) (among_below numbers bound low) (rack_in x) (rack_in y) passed.below;
         tells = tells_below numbers x y begins passed.live_is passed.below tells;
         calls = passed.calls;
         writes = passed.writes;

@@ -7,18 +7,17 @@ use Rattle.dg_model.specs.declared.replies.Reply.TheVariants.{Lost, NotParity, S
 use Rattle.dg_run.specs.declared.arrays.Array.{Array}
 use Rattle.dg_volume.specs.Volumes as volumes
 
--- whether an event is answered by one reply that is known whole before it is written, and tells no bytes of a block
+-- whether an event is answered by one reply that is known whole before it is written and tells no bytes of a block, and makes no member anew nor extends
+-- one
 abbrev pub is_plain : Event → Bool
 is_plain (Write b bytes) = true
 is_plain (Fail s j) = true
-is_plain (Replace s j) = true
 is_plain (Rebuild s n) = true
 is_plain Settle = true
 is_plain (Tend n) = true
 is_plain Diffuse = true
 is_plain (Who b) = true
 is_plain (Home path) = true
-is_plain Save = true
 is_plain Audit = true
 is_plain (DropDisk s j) = true
 is_plain (MendDisk s j) = true

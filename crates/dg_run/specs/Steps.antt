@@ -11,10 +11,10 @@ use Rattle.dg_model.specs.declared.replies.Reply.{Reply}
 use Rattle.dg_model.specs.declared.replies.Reply.TheVariants.{LostFiles as LostFilesReply, Nodes}
 use Rattle.dg_model.specs.declared.shapes.Shape.{Shape}
 use Rattle.dg_run.specs.declared.arrays.Array.{Array}
-use Rattle.dg_store.specs.Leaves.{CallsBelow}
+use Rattle.dg_store.specs.Leaves.{IsCallOrBlankBelow, IsCallOrExtendBelow, MadeBelow}
 use Rattle.dg_text.specs.Replies.{lost_text, nodes_text, reply_line}
 use Rattle.dg_volume.specs.Origins.{Always, Origin, WasHeld}
-use Rattle.dg_volume.specs.Volumes.{IsWell, Leaves, any_phase}
+use Rattle.dg_volume.specs.Volumes.{IsWell, Leaves, LeavesBy, any_phase}
 use Rattle.dg_volume.specs.Volumes as volumes
 use Rattle.ufs_model.specs.Listings.{Listed}
 
@@ -36,9 +36,17 @@ Known P rack array = volumes.Known P rack array.volume
 abbrev pub IsSound : {R : Type 0} → Ghosts R → Array R → Type 0
 IsSound rack array = IsWell any_phase rack array.volume
 
--- what stays of an array, whatever was done
+-- what stays of an array, whatever was done but a save and a replacement: members are read and written alone
 abbrev pub GoesOn : {R : Type 0} → Ghosts R → Array R → Array R → Type 0
 GoesOn rack old new = Leaves any_phase any_phase rack old.volume new.volume
+
+-- what stays of it where it is saved
+abbrev pub GoesSaved : {R : Type 0} → Ghosts R → Array R → Array R → Type 0
+GoesSaved rack old new = LeavesBy any_phase any_phase rack IsCallOrExtendBelow old.volume new.volume
+
+-- what stays of it where a member is replaced
+abbrev pub GoesReplaced : {R : Type 0} → Ghosts R → Array R → Array R → Type 0
+GoesReplaced rack old new = LeavesBy any_phase any_phase rack IsCallOrBlankBelow old.volume new.volume
 
 -- ---- states
 
@@ -110,7 +118,7 @@ pub record IsBlankArray {R : Type 0} (rack : Ghosts R) (shape : Shape) (before :
   pub sound : IsSound rack array
   pub shape_is : shape_of array ≡ shape
   pub tells : StillTold (rack.bytes before) (rack.bytes (rack_of array))
-  pub own : CallsBelow rack shape.b before (rack_of array)
+  pub own : MadeBelow rack IsCallOrBlankBelow shape.b before (rack_of array)
   pub same_rack : rack.name (rack_of array) ≡ rack.name before
   pub state : State
   pub blank : IsBlank shape (rack.counts before) state

@@ -7,7 +7,7 @@ ghost use Rattle.dg_text.specs.Replies.{reply_line};
 ghost use Rattle.dg_io.specs.Told.{Told, Took, TookPart};
 ghost use Rattle.dg_run.specs.Histories.{Continues, EventAnswered, EventCut, EventWanted, IsReady};
 ghost use Rattle.dg_run.specs.Plain.{IsOfPairs, is_plain};
-ghost use Rattle.dg_run.specs.Steps.{Answered, AnsweredPart, GoesOn, IsSound, StepsTo, shape_of};
+ghost use Rattle.dg_run.specs.Steps.{Answered, AnsweredPart, GoesOn, GoesReplaced, GoesSaved, IsSound, StepsTo, shape_of};
 
 use crate::arrays::Array;
 use crate::blocks::{fill_block, trimmed};
@@ -90,7 +90,7 @@ fn serve_read<R: Rack, K: Sink>(
 /// Saves the state, where all boundaries are in use.
 fn save<R: Rack>(alloc: Global, array: &mut Array<R>) -> Result<Reply, NoMemory>
     requires sound { IsSound R.Rack array.old }
-    ensures goes { GoesOn R.Rack array.old array.new }
+    ensures goes { GoesSaved R.Rack array.old array.new }
     ensures steps { IfOk result (λ reply. StepsTo R.Rack array.old Event.Save reply array.new) }
     ensures of_pairs { IfOk result (λ reply. IsOfPairs array.old Event.Save reply) }
 {
@@ -100,7 +100,17 @@ fn save<R: Rack>(alloc: Global, array: &mut Array<R>) -> Result<Reply, NoMemory>
     Ok(save_reply(array.volume.save(alloc, &array.hot)?))
 }
 
-/// Does an event that is answered by one reply, known whole before it is written, which tells no bytes of a block; and answers that.
+/// Makes a member anew that is out.
+fn replace<R: Rack>(array: &mut Array<R>, s: u32, j: u32) -> Reply
+    requires sound { IsSound R.Rack array.old }
+    ensures goes { GoesReplaced R.Rack array.old array.new }
+    ensures steps { StepsTo R.Rack array.old (Event.Replace s j) result array.new }
+{
+    replace_reply(s, array.volume.replace(s, j))
+}
+
+/// Does an event that is answered by one reply, known whole before it is written, which tells no bytes of a block, and makes no member anew nor extends
+/// one; and answers that.
 fn reply_to<R: Rack>(
     alloc: Global,
     array: &mut Array<R>,
@@ -121,27 +131,70 @@ fn reply_to<R: Rack>(
             Ok(write_reply(array.volume.write_block(alloc, *b, block)?))
         }
         Event::Fail(s, j) => Ok(fail_reply(array.volume.fail(*s, *j))),
-        Event::Replace(s, j) => Ok(replace_reply(*s, array.volume.replace(*s, *j))),
         Event::Rebuild(s, n) => Ok(rebuild_reply(array.volume.rebuild(alloc, *s, *n)?)),
         Event::Settle => Ok(settle_reply(array.volume.settle(alloc)?)),
         Event::Tend(n) => Ok(tend_reply(array.volume.tend(alloc, *n)?)),
         Event::Diffuse => Ok(diffuse_reply(array.volume.diffuse(alloc, &array.hot)?)),
         Event::Who(b) => Ok(who_reply(array.volume.who(*b))),
         Event::Home(path) => Ok(home_reply(array.volume.home(path.as_slice()))),
-        Event::Save => save(alloc, array),
         Event::Audit => Ok(audit_reply(array.volume.audit(alloc)?)),
         Event::DropDisk(_, _) | Event::MendDisk(_, _) => Ok(Reply::NotParity),
         Event::Array(_)
         | Event::Safe(_)
         | Event::Parity(_, _)
         | Event::Read(_)
+        | Event::Replace(_, _)
         | Event::Pending
         | Event::Cat(_)
         | Event::Ls(_)
         | Event::Tree
+        | Event::Save
         | Event::Regroup
         | Event::LostFiles => unreachable!(),
     }
+}
+
+/// Saves the state, and writes the reply.
+fn serve_save<R: Rack, K: Sink>(
+    alloc: Global,
+    array: &mut Array<LiveRack<R>>,
+    sink: &mut K,
+) -> Result<(), Fault>
+    requires ready { IsReady R.Rack array.old }
+    ensures goes { Continues R.Rack array.old array.new }
+    ensures answered { OnOk result (EventAnswered R.Rack Event.Save (K.taken sink.old) (K.taken sink.new) array.old array.new) }
+    ensures part { result ≡ Err Fault.Write → EventCut R.Rack Event.Save (K.taken sink.old) (K.taken sink.new) array.old array.new }
+    ensures wanting { result ≡ Err Fault.NoMemory → K.taken sink.new ≡ K.taken sink.old }
+    ensures later { K.faults sink.old ≤ K.faults sink.new }
+    ensures kept { (result ≡ Err Fault.Write → ⊥) → K.faults sink.new ≡ K.faults sink.old }
+    ensures read { result ≡ Err Fault.Read → ⊥ }
+    ensures write { result ≡ Err Fault.Write → Rose (K.faults sink.old) (K.faults sink.new) }
+{
+    match save(alloc, array) {
+        Ok(reply) => send(sink, &reply),
+        Err(_) => Err(Fault::NoMemory),
+    }
+}
+
+/// Makes a member anew that is out, and writes the reply.
+fn serve_replace<R: Rack, K: Sink>(
+    array: &mut Array<LiveRack<R>>,
+    sink: &mut K,
+    s: u32,
+    j: u32,
+) -> Result<(), Fault>
+    requires ready { IsReady R.Rack array.old }
+    ensures goes { Continues R.Rack array.old array.new }
+    ensures answered { OnOk result (EventAnswered R.Rack (Event.Replace s j) (K.taken sink.old) (K.taken sink.new) array.old array.new) }
+    ensures part { result ≡ Err Fault.Write → EventCut R.Rack (Event.Replace s j) (K.taken sink.old) (K.taken sink.new) array.old array.new }
+    ensures later { K.faults sink.old ≤ K.faults sink.new }
+    ensures kept { (result ≡ Err Fault.Write → ⊥) → K.faults sink.new ≡ K.faults sink.old }
+    ensures read { result ≡ Err Fault.Read → ⊥ }
+    ensures memory { result ≡ Err Fault.NoMemory → ⊥ }
+    ensures write { result ≡ Err Fault.Write → Rose (K.faults sink.old) (K.faults sink.new) }
+{
+    let reply = replace(array, s, j);
+    send(sink, &reply)
 }
 
 /// Does such an event, and writes its reply.
@@ -199,6 +252,8 @@ pub fn serve<R: Rack, K: Sink>(
         Event::Cat(path) => serve_cat(array, sink, path),
         Event::Ls(path) => serve_ls(array, sink, path),
         Event::Tree => serve_tree(alloc, array, sink),
+        Event::Save => serve_save(alloc, array, sink),
+        Event::Replace(s, j) => serve_replace(array, sink, *s, *j),
         Event::Regroup => serve_regroup(alloc, array, sink),
         Event::LostFiles => serve_lost(alloc, array, sink),
         plain => serve_plain(alloc, array, sink, plain, block),

@@ -185,6 +185,7 @@ module _ {S T E : Type 0} (rack : Ghosts S) (q : ℕ) (result : Result T E) (m n
     stands_on = ok_on result (stands_in n q ≡ true) (stands_in m q ≡ true → stands_in n q ≡ true) (λ is h. is) ok;
     tells = λ r told. some_seen m r (rack.bytes a r) (leaves.tells r (seen_some n r (rack.bytes b r) told));
     told_before = after.told_before;
+    rise = after.rise;
     disks = after.disks_after;
   }
 

@@ -7,13 +7,14 @@ use Rattle.dg_io.specs.Faults.{HasCause}
 use Rattle.dg_io.specs.Kept.{HasAnother, IsNothing, Kept, KeepsRest, without}
 use Rattle.dg_io.specs.Told.{Extended, IsEmpty, IsSame, KeepsFront, Measures, Told}
 use Rattle.dg_io.specs.declared.outside.Rack.{Ghosts}
+use Rattle.dg_model.specs.Causes.{Rose}
 use Rattle.dg_stop.proofs.BlankLemmas.{no_header_unknown}
 use Rattle.dg_stop.proofs.Keeping.{anchored_none}
 use Rattle.dg_stop.proofs.MemberLemmas.{fall_seen}
 use Rattle.dg_stop.proofs.Paging.{size_seen}
 use Rattle.dg_stop.proofs.StepLemmas.{TallySteps}
 use Rattle.dg_stop.specs.DoubleLaws.{both_of}
-use Rattle.dg_stop.specs.Doubles.{AreHeld, Double, Falls, IsBlank, KeepsOthers, Notes, double_keeps, double_stands, fell_in, keeps_in, known_in, nothing_kept, seen_in, sizes_in, stands_in}
+use Rattle.dg_stop.specs.Doubles.{AreHeld, Double, Falls, IsBlank, IsDue, KeepsOthers, Notes, double_keeps, double_stands, fell_in, keeps_in, known_in, nothing_kept, seen_in, sizes_in, stands_in}
 use Rattle.dg_stop.specs.Headers.{Header, HasHeader}
 use Rattle.dg_stop.specs.Layouts.{bit_in, table_size}
 use Rattle.dg_stop.specs.Phases.{bits_in, known_at, view_of}
@@ -27,6 +28,25 @@ cause_of q (Err x) failed old new is notes = record { later = notes.later; faile
 
 pub tally_of : {T E : Type 0} (q : ℕ) (r : Result T E) (failed : Bool) (old new : Tally) → failed ≡ is_err r → Notes q failed old new → TallySteps q r old new
 tally_of q r failed old new is notes = record { cause = cause_of q r failed old new is notes; others = notes.others; calls = notes.calls; writes = notes.rise }
+
+-- ---- a read or a write
+
+-- a member that is told has all the bytes that the call is on
+inside_told : (m : Memory) (q most : ℕ) (x : Option (List ℕ)) → IsSome x → IfSome (seen_in m q x) (λ all. most ≤ length all) → sizes_in m q < most → ⊥
+inside_told m q most None some fits past = false≢true some
+inside_told m q most (Some all) some fits past =
+    let size = size_seen (table_size (sizes_in m q) m.room) (sizes_in m q) (bit_in (bits_in m.current.items q)) all in
+    omega (arith, size, fits, past)
+
+-- so where it failed the count of the member behind rose
+pub due_told : {S T E : Type 0} (rack : Ghosts S) → ((s : S) (q : ℕ) → rack.tells s q → rack.stands s q ≡ true → IsSome (rack.bytes s q)) → (m : Memory) (q most : ℕ) (a b : S) (r : Result T E)
+    → rack.tells a q → rack.stands a q ≡ true → IfSome (seen_in m q (rack.bytes a q)) (λ all. most ≤ length all) → OnErr r (IsDue rack q (sizes_in m q < most) a b)
+    → OnErr r (Rose ((rack.counts a).faults q) ((rack.counts b).faults q))
+due_told rack told m q most a b (Ok x) tells stands fits due = tt
+due_told rack told m q most a b (Err x) tells stands fits due = elim due [
+  | inl rose ↦ rose
+  | inr past ↦ absurd (inside_told m q most (rack.bytes a q) (told a q tells stands) fits past)
+]
 
 -- ---- a blank
 

@@ -12,10 +12,10 @@ use Rattle.dg_io.specs.declared.checkpoints.CommitAnswer.TheVariants.{Committed,
 use Rattle.dg_io.specs.declared.outside.Rack.{Ghosts}
 use Rattle.dg_stop.proofs.CommitMembers.{not_fallen}
 use Rattle.dg_stop.proofs.TriesLemmas.{none_of}
-use Rattle.dg_stop.specs.DoubleCommits.{Faults, KeepsCommit, LeavesMembers, answer_in, double_rack, double_room, fell_now, tried_kept}
+use Rattle.dg_stop.specs.DoubleCommits.{Faults, RisesBehind, KeepsCommit, LeavesMembers, answer_in, double_rack, double_room, fell_now, tried_kept}
 use Rattle.dg_stop.specs.Doubles.{Double, double_bytes, stands_in}
 use Rattle.dg_stop.specs.Phases.{flag_in}
-use Rattle.dg_stop.specs.StopRacks.{stop_room, stop_words}
+use Rattle.dg_stop.specs.StopRacks.{StopCommits, stop_room, stop_words}
 use Rattle.dg_stop.specs.Tries.{AreTried}
 use Rattle.dg_stop.specs.declared.stop_racks.StopRack.TheVariants.{Plain, Doubled}
 
@@ -113,6 +113,12 @@ commit_doubled rack keep extra answer old new leaves = record {
   kept_of : (given : CommitAnswer) → KeptAfter (double_rack rack) keep extra given old new → KeptAfter (stop_words rack) keep extra given (Doubled old) (Doubled new)
   kept_of (Committed s fell) kept = kept
   kept_of Lost kept = kept
+
+pub commits_doubled : {R : Type 0} (rack : Ghosts R) (old new : Double R) → RisesBehind rack old new → StopCommits rack (Doubled old) (Doubled new)
+commits_doubled rack old new rises = record { by = rises }
+
+pub commits_plain : {R : Type 0} (rack : Ghosts R) (it : R) → StopCommits rack (Plain it) (Plain it)
+commits_plain rack it = record { by = refl }
 
 itself : (x : Option (List ℕ)) → Told IsSame x x
 itself None = tt

@@ -165,6 +165,7 @@ module _ (served serves : List Bool) (commit top : ℕ) (m n : Memory) (is : Com
       stands = λ q. (is.members q).stands;
       behind = behind_at;
       told_before = after.told_before;
+      rise = after.rise;
       disks = record { rises = after.disks_after.rises; stays = λ s j was. after.disks_after.stays s j (no_blank s) was };
       room = is.room;
     }
@@ -377,6 +378,7 @@ module _ {S : Type 0} (rack : Ghosts S) (served serves : List Bool) (m n : Memor
     stands = λ q. (is.members q).stands;
     behind = λ q near. refl;
     told_before = λ q told. told;
+    rise = record { faults = λ q. omega arith; calls = omega arith; writes = omega arith };
     disks = record {
       rises = record { rise = λ s j. omega arith; cause = λ s j was gone. absurd (false≢true (sym was ∙ gone)) };
       stays = λ s j was. was;

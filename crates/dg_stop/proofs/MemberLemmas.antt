@@ -8,7 +8,7 @@ use Rattle.std.proofs.lemmas.Option.{slice_get-get_or, slice_get_read}
 use Rattle.dg_io.specs.Makes.{Makes}
 use Rattle.dg_io.specs.MakesLaws.{makes_made}
 use Rattle.dg_io.specs.RackCalls.{RackCall}
-use Rattle.dg_io.specs.RackCalls.RackCall.{calls}
+use Rattle.dg_io.specs.RackCalls.RackCall.{calls, extends}
 use Rattle.dg_io.specs.RackWords.{After, MadeOnly}
 use Rattle.dg_io.specs.Told.{IsSame, Patched, Reads, Told, Torn}
 use Rattle.dg_io.specs.declared.outside.Rack.{Ghosts}
@@ -266,9 +266,9 @@ idle_keeps rack m a = still_keeps rack m m a (rewrites_less 0 m m (rewrites_self
 
 -- an extend
 module _ {S T E : Type 0} (rack : Ghosts S) (q : ℕ) (m : Memory) (a : S) (held : AreHeld rack m a) where
-  pub extend_steps : (n : Memory) (r : Result T E) → OnOk r (n ≡ m) → OnErr r (Falls q m n) → Steps rack (calls q) q r m n a a
-  extend_steps n (Ok x) same falls = subst (λ (k : Memory). Steps {T = T} {E = E} rack (calls q) q (Ok x) m k a a) (sym same) (idle_steps rack (calls q) q (Ok x) m a held)
-  extend_steps n (Err x) same falls = fall_steps rack q m n a held falls (calls q) (Err x) refl
+  pub extend_steps : (n : Memory) (r : Result T E) → OnOk r (n ≡ m) → OnErr r (Falls q m n) → Steps rack (extends q) q r m n a a
+  extend_steps n (Ok x) same falls = subst (λ (k : Memory). Steps {T = T} {E = E} rack (extends q) q (Ok x) m k a a) (sym same) (idle_steps rack (extends q) q (Ok x) m a held)
+  extend_steps n (Err x) same falls = fall_steps rack q m n a held falls (extends q) (Err x) refl
 
   pub extend_keeps : (n : Memory) (r : Result T E) → OnOk r (n ≡ m) → OnErr r (Falls q m n) → KeepsStill rack m n a a
   extend_keeps n (Ok x) same falls = subst (λ (k : Memory). KeepsStill rack m k a a) (sym same) (idle_keeps rack m a)

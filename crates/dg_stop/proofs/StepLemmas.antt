@@ -1,5 +1,5 @@
 -- What a call on a member leaves of a double rack, from what it left of the rack behind.
-use Rattle.std.proofs.Common.{◌≡◌, ◌≢◌, ◌≤◌, ◌↔◌, ℕ, Bool, true, false, List, [], ◌∷◌, length, refl, sym, ◌∙◌, ap, arith, inl, inr, subst}
+use Rattle.std.proofs.Common.{◌≡◌, ◌≢◌, ◌<◌, ◌≤◌, ◌↔◌, ℕ, Bool, true, false, List, [], ◌∷◌, length, refl, sym, ◌∙◌, ap, arith, inl, inr, subst}
 use Rattle.std.specs.Prelude.{◌&&◌, Option, Some, None, IfSome, IsSome, OnErr, OnOk, Result, Ok, Err, if◌then◌else◌, slice_index}
 use Rattle.std.proofs.lemmas.Bool.{false≢true}
 use Rattle.dg_io.specs.Disks.{DiskStates, DisksAfter}
@@ -10,13 +10,13 @@ use Rattle.dg_io.specs.RackCalls.RackCall.{calls}
 use Rattle.dg_io.specs.RackWords.{After, Leaves, MadeOnly}
 use Rattle.dg_io.specs.Told.{IsSame, StillTold, Told}
 use Rattle.dg_io.specs.declared.outside.Rack.{Ghosts}
-use Rattle.dg_model.specs.Causes.{RoseByOne}
+use Rattle.dg_model.specs.Causes.{Rose, RoseByOne}
 use Rattle.dg_stop.proofs.Committing.{same_or_not}
 use Rattle.dg_stop.proofs.Keeping.{Carries, Narrows, narrows_guards, narrows_keeps, pages_carry}
 use Rattle.dg_stop.proofs.OneCommit.{same_at, told_both}
 use Rattle.dg_stop.proofs.PieceLemmas.{torn_pages_size}
 use Rattle.dg_stop.specs.DoubleLaws.{both_of, seen_some, some_seen}
-use Rattle.dg_stop.specs.Doubles.{AreHeld, Double, DoubleMade, GuardsAll, IsBeside, KeepsStill, Steps, double_stands, double_words, fell_in, known_in, last_in, seen_in, sizes_in, stands_in}
+use Rattle.dg_stop.specs.Doubles.{AreHeld, Double, DoubleMade, GuardsAll, IsBeside, IsPlainOn, KeepsStill, Steps, double_stands, double_words, fell_in, known_in, last_in, seen_in, sizes_in, stands_in}
 use Rattle.dg_stop.specs.Layouts.{bits_of, double_size, table_size}
 use Rattle.dg_stop.specs.Pages.{TornPages}
 use Rattle.dg_stop.specs.Phases.{Sized, TellsAll, bits_in, bytes_or, known_at, view_of}
@@ -186,6 +186,7 @@ module _ {S T E : Type 0} (rack : Ghosts S) (q : ℕ) (result : Result T E) (m n
     stands_on = ok_on result (stands_in n q ≡ true) (stands_in m q ≡ true → stands_in n q ≡ true) (λ is h. is) ok;
     tells = λ r told. some_seen m r (rack.bytes a r) (serves.tells r (seen_some n r (rack.bytes b r) told));
     told_before = (after a b only.calls only.made).told_before;
+    rise = (after a b only.calls only.made).rise;
     disks = disks_on q only.calls only.each (rack.disks a) (rack.disks b) (after a b only.calls only.made).disks_after;
   }
 
@@ -217,6 +218,7 @@ module _ {S T E : Type 0} (rack : Ghosts S) (call : RackCall) (q : ℕ) (result 
     stands_on = ok_on result (stands_in n q ≡ stands_in m q) (stands_in m q ≡ true → stands_in n q ≡ true) (λ is h. is ∙ h) ok;
     tells = λ r told. some_seen m r (rack.bytes a r) (seen_some n r (rack.bytes a r) told);
     told_before = λ r h. h;
+    rise = record { faults = λ r. omega arith; calls = omega arith; writes = omega arith };
     disks = disks_none (rack.disks a) call;
   }
 
@@ -272,8 +274,18 @@ module _ {S T E : Type 0} (rack : Ghosts S) (call : RackCall) (q : ℕ) (on : me
     steady_on = (λ h. h, λ h. h);
   }
 
-  pub made_double : (IsNoBlank call → KeepsStill rack old.memory new.memory old.rack new.rack) → DoubleMade rack old (call ∷ []) new
-  made_double keeps = record {
+  -- the own count of the member rose only where the call failed
+  own_cause : OnErr result (Rose ((rack.counts old.rack).faults q) ((rack.counts new.rack).faults q)) → slice_index old.tally.faults q < slice_index new.tally.faults q
+      → Rose ((rack.counts old.rack).faults q) ((rack.counts new.rack).faults q)
+  own_cause due rose = by result tally.cause due where
+    by : (r : Result T E) → HasCause (slice_index old.tally.faults q) (slice_index new.tally.faults q) r → OnErr r (Rose ((rack.counts old.rack).faults q) ((rack.counts new.rack).faults q))
+        → Rose ((rack.counts old.rack).faults q) ((rack.counts new.rack).faults q)
+    by (Ok x) cause is = absurd (omega (arith, cause.kept, rose))
+    by (Err x) cause is = is
+
+  pub made_double : (IsNoBlank call → KeepsStill rack old.memory new.memory old.rack new.rack)
+      → (IsPlainOn q call → rack.tells new.rack q → OnErr result (Rose ((rack.counts old.rack).faults q) ((rack.counts new.rack).faults q))) → DoubleMade rack old (call ∷ []) new
+  made_double keeps due = record {
     after = record {
       same_rack = steps.same_rack;
       steady_on = (λ h. h, λ h. h);
@@ -286,4 +298,12 @@ module _ {S T E : Type 0} (rack : Ghosts S) (call : RackCall) (q : ℕ) (on : me
       keeps_on = λ each. keeps each.0;
       disks_after = steps.disks;
     };
+    behind = steps.rise;
+    cause = λ r tells each rose. elim (same_or_not r q) [
+      | inl e ↦
+          subst (λ (x : ℕ). Rose ((rack.counts old.rack).faults x) ((rack.counts new.rack).faults x)) (sym e)
+          (own_cause (due (subst (λ (x : ℕ). IsPlainOn x call) e each.0) (subst (λ (x : ℕ). rack.tells new.rack x) e tells))
+          (subst (λ (x : ℕ). slice_index old.tally.faults x < slice_index new.tally.faults x) e rose))
+      | inr far ↦ absurd (omega (arith, tally.others r far, rose))
+    ];
   }

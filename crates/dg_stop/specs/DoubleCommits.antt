@@ -8,6 +8,7 @@ use Rattle.dg_io.specs.Kept.{Kept}
 use Rattle.dg_io.specs.Told.{IsSame, Told}
 use Rattle.dg_io.specs.declared.outside.Rack.{Ghosts}
 use Rattle.dg_model.specs.Causes.{Rose}
+use Rattle.dg_model.specs.States.{CountsRise}
 use Rattle.dg_stop.specs.Doubles.{AreHeld, Double, DoubleMade, IsDue, double_bytes, double_counts, double_disks, double_keeps, double_name, double_stands, double_steady, double_tells, fell_in, keeps_in, seen_in, stands_in}
 use Rattle.dg_stop.specs.Phases.{bits_in, flag_in}
 use Rattle.dg_stop.specs.declared.memories.Memory.{Memory}
@@ -93,6 +94,7 @@ pub record LeavesMembers {S : Type 0} (rack : Ghosts S) (served serves : List Bo
   pub stands : (q : ℕ) → stands_in later q ≡ (if fell_now served serves q then false else stands_in memory q)
   pub behind : (q : ℕ) → fell_now served serves q ≡ false → rack.stands new q ≡ rack.stands old q
   pub told_before : (q : ℕ) → rack.tells new q → rack.tells old q
+  pub rise : CountsRise (rack.counts old) (rack.counts new)
   pub disks : DisksFall (rack.disks old) (rack.disks new)
   pub room : later.room ≡ memory.room
 
@@ -128,6 +130,10 @@ double_rack rack = record {
   disks = double_disks rack;
   made = DoubleMade rack;
 }
+
+-- what a commit may leave of it, beside its members: no count behind fell
+pub record RisesBehind {R : Type 0} (rack : Ghosts R) (old new : Double R) : Type 0 where
+  pub rise : CountsRise (rack.counts old.rack) (rack.counts new.rack)
 
 -- the room for extra bytes
 abbrev pub double_room : {R : Type 0} → Double R → Option ℕ

@@ -1,10 +1,13 @@
 -- Calls of a double rack leave what each of them leaves.
-use Rattle.std.specs.Prelude.{◌≡◌, ◌&&◌, ◌++◌, ℕ, Bool, true, false, List, [], Option, Some, None, IsSome, refl}
-use Rattle.std.proofs.lemmas.Bool.{false≢true}
-use Rattle.dg_io.specs.MadeLaws.{after_both, after_none}
+use Rattle.std.specs.Prelude.{◌≡◌, ◌<◌, ◌≤◌, ◌&&◌, ◌++◌, ℕ, Bool, true, false, List, [], Option, Some, None, IsSome, refl, slice_index}
+use Rattle.std.proofs.Common.{arith, inl, inr}
+use Rattle.std.proofs.lemmas.Bool.{cases_lt, false≢true}
+use Rattle.dg_io.specs.MadeLaws.{after_both, after_none, each_back, each_front}
 use Rattle.dg_io.specs.RackCalls.{RackCall}
 use Rattle.dg_io.specs.RackWords.{After}
 use Rattle.dg_io.specs.declared.outside.Rack.{Ghosts}
+use Rattle.dg_model.specs.Causes.{Rose}
+use Rattle.dg_model.specs.States.{Counts, CountsRise}
 use Rattle.dg_stop.specs.Doubles.{Double, DoubleMade, double_bytes, double_counts, double_disks, double_keeps, double_name, double_stands, double_steady, double_tells, double_words, seen_in, stands_in}
 use Rattle.dg_stop.specs.declared.memories.Memory.{Memory}
 
@@ -28,16 +31,36 @@ pub double_told : {R : Type 0} (bytes : R → ℕ → Option (List ℕ)) (stands
     → (s : Double R) (q : ℕ) → tells s.rack q → (stands_in s.memory q && stands s.rack q) ≡ true → IsSome (seen_in s.memory q (bytes s.rack q))
 double_told bytes stands tells law s q told stand = some_seen s.memory q (bytes s.rack q) (law s.rack q told (both_of (stands_in s.memory q) (stands s.rack q) stand).1)
 
+rose_then : (a b c : ℕ) → Rose a b → b ≤ c → Rose a c
+rose_then a b c rose later = omega (arith, rose, later)
+
+then_rose : (a b c : ℕ) → a ≤ b → Rose b c → Rose a c
+then_rose a b c later rose = omega (arith, rose, later)
+
+rise_both : (a b c : Counts) → CountsRise a b → CountsRise b c → CountsRise a c
+rise_both a b c first second = record {
+  faults = λ q. omega (arith, first.faults q, second.faults q);
+  calls = omega (arith, first.calls, second.calls);
+  writes = omega (arith, first.writes, second.writes);
+}
+
 module _ {R : Type 0} (rack : Ghosts R) where
   pub double_none : (s : Double R) → DoubleMade rack s [] s
   double_none s = record {
     after = after_none (double_name rack) (double_bytes rack) (double_counts rack) (double_stands rack) (double_steady rack) (double_tells rack) (double_keeps rack) (double_disks rack) s;
+    behind = record { faults = λ q. omega arith; calls = omega arith; writes = omega arith };
+    cause = λ q tells each rose. absurd (omega (arith, rose));
   }
 
   pub double_both : (a b c : Double R) (x y : List RackCall) → DoubleMade rack a x b → DoubleMade rack b y c → DoubleMade rack a (x ++ y) c
   double_both a b c x y first second = record {
     after = after_both (double_name rack) (double_bytes rack) (double_counts rack) (double_stands rack) (double_steady rack) (double_tells rack) (double_keeps rack) (double_disks rack) a b c x y
         first.after second.after;
+    behind = rise_both (rack.counts a.rack) (rack.counts b.rack) (rack.counts c.rack) first.behind second.behind;
+    cause = λ q tells each rose. elim (cases_lt (slice_index a.tally.faults q) (slice_index b.tally.faults q)) [
+      | inl early ↦ rose_then _ _ _ (first.cause q (second.after.told_before q tells) (each_front _ x y each) early) (second.behind.faults q)
+      | inr late ↦ then_rose _ _ _ (first.behind.faults q) (second.cause q tells (each_back _ x y each) (omega (arith, rose, late)))
+    ];
   }
 
   pub double_after : (a b : Double R) (calls : List RackCall) → DoubleMade rack a calls b → After (double_words rack) calls a b

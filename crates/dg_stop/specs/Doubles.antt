@@ -2,12 +2,12 @@
 use Rattle.std.specs.Prelude.{◌≡◌, ◌≢◌, ◌≤◌, ◌<◌, ◌^◌, ◌⊎◌, ◌↔◌, ◌&&◌, ℕ, Bool, true, false, List, [], ◌∷◌, Option, Some, None, IsSome, OnOk, Result, length, replicate, slice_get, slice_index}
 use Rattle.dg_io.specs.Disks.{DiskStates, DisksAfter}
 use Rattle.dg_io.specs.Kept.{HasAnother, IsNothing, Kept, without}
-use Rattle.dg_io.specs.RackCalls.{RackCall}
+use Rattle.dg_io.specs.RackCalls.{Each, RackCall, blanks, calls, extends, looks}
 use Rattle.dg_io.specs.RackWords.{After}
 use Rattle.dg_io.specs.Told.{IsSame, Told}
 use Rattle.dg_io.specs.declared.outside.Rack.{Ghosts}
 use Rattle.dg_model.specs.Causes.{Rose, RoseByOne}
-use Rattle.dg_model.specs.States.{Counts}
+use Rattle.dg_model.specs.States.{Counts, CountsRise}
 use Rattle.dg_stop.specs.Commits.{AreGuarded, IsFresh}
 use Rattle.dg_stop.specs.Layouts.{bit_in, bits_of}
 use Rattle.dg_stop.specs.Phases.{Sized, TellsAll, bits_in, flag_in, known_at, size_in, view_of}
@@ -195,11 +195,23 @@ double_words rack = record {
   tells = double_tells rack;
   keeps = double_keeps rack;
   disks = double_disks rack;
-  made = λ old calls new. Unit {0};
+  made = λ old made new. Unit {0};
 }
+
+-- a call that neither looks for member q, nor makes it anew, nor extends it
+abbrev pub IsPlainOn : ℕ → RackCall → Type 0
+IsPlainOn q (looks p) = p ≢ q
+IsPlainOn q (blanks p) = p ≢ q
+IsPlainOn q (calls p) = Unit {0}
+IsPlainOn q (extends p) = p ≢ q
 
 pub record DoubleMade {R : Type 0} (rack : Ghosts R) (old : Double R) (made : List RackCall) (new : Double R) : Type 0 where
   pub after : After (double_words rack) made old new
+  -- no count behind fell
+  pub behind : CountsRise (rack.counts old.rack) (rack.counts new.rack)
+  -- The own count of a member that the rack behind tells rose only where that behind did, unless one of the calls looks for it, makes it anew or extends it.
+  pub cause : (q : ℕ) → rack.tells new.rack q → Each (IsPlainOn q) made → slice_index old.tally.faults q < slice_index new.tally.faults q
+      → Rose ((rack.counts old.rack).faults q) ((rack.counts new.rack).faults q)
 
 -- ---- what a call leaves
 
@@ -223,6 +235,7 @@ pub record Steps {S T E : Type 0} (rack : Ghosts S) (call : RackCall) (q : ℕ) 
   pub stands_on : OnOk result (stands_in memory q ≡ true → stands_in later q ≡ true)
   pub tells : (r : ℕ) → IsSome (seen_in later r (rack.bytes new r)) → IsSome (seen_in memory r (rack.bytes old r))
   pub told_before : (r : ℕ) → rack.tells new r → rack.tells old r
+  pub rise : CountsRise (rack.counts old) (rack.counts new)
   pub disks : DisksAfter (call ∷ []) (rack.disks old) (rack.disks new)
 
 -- what was kept is kept

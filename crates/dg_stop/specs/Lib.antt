@@ -22,5 +22,6 @@ pub mod StopLaws
 pub mod StopRacks
 pub mod Stops
 pub mod Tables
+pub mod Ties
 pub mod Tries
 pub mod Values

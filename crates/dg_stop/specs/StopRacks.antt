@@ -5,7 +5,7 @@ use Rattle.dg_io.specs.Kept.{Kept}
 use Rattle.dg_io.specs.RackCalls.{RackCall}
 use Rattle.dg_io.specs.declared.outside.Rack.{Ghosts}
 use Rattle.dg_model.specs.States.{Counts}
-use Rattle.dg_stop.specs.DoubleCommits.{double_room}
+use Rattle.dg_stop.specs.DoubleCommits.{RisesBehind, double_room}
 use Rattle.dg_stop.specs.Doubles.{DoubleMade, HasNoCalls, IsBlank, double_counts, double_disks, double_keeps, double_name, double_steady, seen_in, stands_in}
 use Rattle.dg_stop.specs.declared.stop_racks.StopRack.{StopRack}
 use Rattle.dg_stop.specs.declared.stop_racks.StopRack.TheVariants.{Plain, Doubled}
@@ -66,6 +66,16 @@ made_by rack (Doubled old) made (Doubled new) = DoubleMade rack old made new
 
 pub record StopMade {R : Type 0} (rack : Ghosts R) (old : StopRack R) (made : List RackCall) (new : StopRack R) : Type 0 where
   pub by : made_by rack old made new
+
+-- What a commit may leave of it, beside its members: a plain one is as it was, and a double one stays double, and no count behind fell.
+abbrev pub commits_by : {R : Type 0} → Ghosts R → StopRack R → StopRack R → Type 0
+commits_by rack (Plain old) (Plain new) = new ≡ old
+commits_by rack (Plain old) (Doubled new) = ⊥
+commits_by rack (Doubled old) (Plain new) = ⊥
+commits_by rack (Doubled old) (Doubled new) = RisesBehind rack old new
+
+pub record StopCommits {R : Type 0} (rack : Ghosts R) (old new : StopRack R) : Type 0 where
+  pub by : commits_by rack old new
 
 abbrev pub stop_words : {R : Type 0} → Ghosts R → Ghosts (StopRack R)
 stop_words rack = record {

@@ -174,7 +174,7 @@ impl<R: Rack> Rack for StopRack<R> {
         requires longer { IfSome (stop_bytes R.Rack self.old member) (FitsIn length) }
         ensures ok { OnOk result (Told (Extended length) (stop_bytes R.Rack self.old member) (stop_bytes R.Rack self.new member)) }
         ensures err { OnErr result (Told KeepsFront (stop_bytes R.Rack self.old member) (stop_bytes R.Rack self.new member)) }
-        ensures made { StopMade R.Rack self.old (RackCall.calls member ∷ []) self.new }
+        ensures made { StopMade R.Rack self.old (RackCall.extends member ∷ []) self.new }
         ensures leaves { Leaves (stop_words R.Rack) member result self.old self.new }
         ensures writes { RoseByOne (stop_counts R.Rack self.old).writes (stop_counts R.Rack self.new).writes }
         ensures calls { MostCalls R.Rack (calls_to_look self.old) (behind self.old) (behind self.new) }
@@ -201,15 +201,18 @@ impl<R: Rack> Checkpoint for StopRack<R> {
     ghost use Rattle.dg_io.specs.Commits.{LeavesCommit, is_marked};
     ghost use Rattle.dg_stop.specs.Behind.{MostCalls};
     ghost use Rattle.dg_stop.specs.StopCalls.{behind, calls_to_commit};
-    ghost use Rattle.dg_stop.specs.StopRacks.{stop_room, stop_stands, stop_words};
+    ghost use Rattle.dg_stop.specs.StopRacks.{StopCommits, stop_room, stop_stands, stop_words};
 
     ghost room_of = { stop_room };
+
+    ghost commits = { StopCommits R.Rack };
 
     /// No call behind of a plain one. Of a double one four on each member of `keep`, and three on each once more for each that fell.
     fn commit(&mut self, keep: u32, extra: &[u8]) -> CommitAnswer
         requires stand { (q : ℕ) → is_marked keep q ≡ true → stop_stands R.Rack self.old q ≡ true }
         requires fits { IfSome (stop_room self.old) (λ room. length extra.now ≤ room) }
         ensures leaves { LeavesCommit (stop_words R.Rack) stop_room keep extra.now result self.old self.new }
+        ensures commits { StopCommits R.Rack self.old self.new }
         ensures calls { MostCalls R.Rack (calls_to_commit self.old keep result) (behind self.old) (behind self.new) }
     {
         match self {

@@ -11,14 +11,14 @@ use Rattle.dg_model.specs.declared.shapes.Shape.{Shape}
 use Rattle.dg_io.specs.Makes.{Makes}
 use Rattle.dg_io.specs.MakesLaws.{makes_only}
 use Rattle.dg_io.specs.OnlyLaws.{only_faults, only_such, only_told}
-use Rattle.dg_io.specs.RackCalls.{IsNotOn, RackCall, blanks, calls, looks}
+use Rattle.dg_io.specs.RackCalls.{IsNotOn, RackCall, blanks, calls, extends, looks}
 use Rattle.dg_io.specs.RackWords.{After, MadeOnly}
 use Rattle.dg_io.specs.Told.{Told, IsSame, Torn}
 use Rattle.dg_io.specs.declared.outside.Rack.{Ghosts}
 use Rattle.dg_pair.specs.declared.boundaries.Boundary.{Boundary}
 use Rattle.dg_pair.specs.Boundaries.{MembersFit, MembersStand, members_of, number_of, size_of, slots_of}
-use Rattle.dg_pair.specs.Calls.{IsCallAt, IsCallOf, KeepsBeside, KeepsPair, LeavesBoundary, LeavesPair}
-use Rattle.dg_store.specs.Leaves.{CallsBelow, IsCallBelow, OutAreIdle, RackStays}
+use Rattle.dg_pair.specs.Calls.{IsBlankAt, IsCallAt, IsCallOf, IsExtendAt, IsExtendOf, KeepsBeside, KeepsPair, LeavesBoundary, LeavesPair}
+use Rattle.dg_store.specs.Leaves.{CallsBelow, IsCallBelow, IsCallOrBlankBelow, IsCallOrExtendBelow, MadeBelow, OutAreIdle, RackStays}
 use Rattle.dg_store.specs.Rows.{AreLong, IsRow, RowStands, members_in}
 use Rattle.dg_store.specs.Slots.{KeepsOtherSlots, KeepsSlots, RowKeeps}
 use Rattle.dg_store.proofs.Changed.{OtherPairsSame, falls_changed, fell_changed, lost_is, holds_part, holds_whole, kept_changed}
@@ -144,43 +144,103 @@ called_in {s = s} own was (calls q) is = elim (cases_eq (q / 2) s) [
   | inl at ↦ λ out. is (sym (was q at) ∙ out)
   | inr off ↦ absurd (is (own q off))
 ]
+called_in own was (extends q) is = is
+
+extended_in : {s : ℕ} {x row : ℕ → MemberState} → ((q : ℕ) → q / 2 ≢ s → x q ≡ Out) → ((q : ℕ) → q / 2 ≡ s → row q ≡ x q) → (call : RackCall) → IsExtendOf x call → IsExtendOf row call
+extended_in own was (looks q) is = is
+extended_in own was (blanks q) is = is
+extended_in own was (calls q) is = is
+extended_in {s = s} own was (extends q) is = elim (cases_eq (q / 2) s) [
+  | inl at ↦ λ out. is (sym (was q at) ∙ out)
+  | inr off ↦ absurd (is (own q off))
+]
 
 pub called_of : {R : Type 0} (rack : Ghosts R) {s : ℕ} {x row : ℕ → MemberState} {old new : R} → ((q : ℕ) → q / 2 ≢ s → x q ≡ Out) → ((q : ℕ) → q / 2 ≡ s → row q ≡ x q)
     → MadeOnly rack (IsCallOf x) old new → Makes rack (IsCallOf row) old new
 called_of rack {x = x} {row = row} {old = old} {new = new} own was only = makes_only rack (IsCallOf row) old new (only_such rack (IsCallOf x) (IsCallOf row) old new (called_in own was) only)
+
+pub extended_of : {R : Type 0} (rack : Ghosts R) {s : ℕ} {x row : ℕ → MemberState} {old new : R} → ((q : ℕ) → q / 2 ≢ s → x q ≡ Out) → ((q : ℕ) → q / 2 ≡ s → row q ≡ x q)
+    → MadeOnly rack (IsExtendOf x) old new → Makes rack (IsExtendOf row) old new
+extended_of rack {x = x} {row = row} {old = old} {new = new} own was only = makes_only rack (IsExtendOf row) old new (only_such rack (IsExtendOf x) (IsExtendOf row) old new (extended_in own was) only)
 
 -- a member of the row that was out wasn't called
 not_called : (row : ℕ → MemberState) (q : ℕ) → row q ≡ Out → (call : RackCall) → IsCallOf row call → IsNotOn q call
 not_called row q out (looks p) is = absurd is
 not_called row q out (blanks p) is = absurd is
 not_called row q out (calls p) is = λ at. is (ap row at ∙ out)
+not_called row q out (extends p) is = absurd is
+
+not_extended : (row : ℕ → MemberState) (q : ℕ) → row q ≡ Out → (call : RackCall) → IsExtendOf row call → IsNotOn q call
+not_extended row q out (looks p) is = absurd is
+not_extended row q out (blanks p) is = absurd is
+not_extended row q out (calls p) is = absurd is
+not_extended row q out (extends p) is = λ at. is (ap row at ∙ out)
 
 pub idle_of : {R : Type 0} (rack : Ghosts R) → ((a b : R) (calls : List RackCall) → rack.made a calls b → After rack calls a b) → {s : ℕ} {x row : ℕ → MemberState} {old new : R}
     → ((q : ℕ) → q / 2 ≢ s → x q ≡ Out) → ((q : ℕ) → q / 2 ≡ s → row q ≡ x q) → MadeOnly rack (IsCallOf x) old new → OutAreIdle (rack.counts old).faults (rack.counts new).faults row
 idle_of rack after {x = x} {row = row} {old = old} {new = new} own was only q out =
     only_faults rack after (IsCallOf row) old new (only_such rack (IsCallOf x) (IsCallOf row) old new (called_in own was) only) q (not_called row q out)
 
+pub idle_extended : {R : Type 0} (rack : Ghosts R) → ((a b : R) (calls : List RackCall) → rack.made a calls b → After rack calls a b) → {s : ℕ} {x row : ℕ → MemberState} {old new : R}
+    → ((q : ℕ) → q / 2 ≢ s → x q ≡ Out) → ((q : ℕ) → q / 2 ≡ s → row q ≡ x q) → MadeOnly rack (IsExtendOf x) old new → OutAreIdle (rack.counts old).faults (rack.counts new).faults row
+idle_extended rack after {x = x} {row = row} {old = old} {new = new} own was only q out =
+    only_faults rack after (IsExtendOf row) old new (only_such rack (IsExtendOf x) (IsExtendOf row) old new (extended_in own was) only) q (not_extended row q out)
+
 -- what a call on a boundary leaves of the rack
-pub stays_of : {R : Type 0} (rack : Ghosts R) → ((a b : R) (calls : List RackCall) → rack.made a calls b → After rack calls a b) → {number l slots : ℕ} {expected : ℕ → MemberState} {y : Boundary} {old new : R}
-    → LeavesBoundary rack number l slots expected y old new → RackStays rack old new
-stays_of rack after {number = number} {old = old} {new = new} leaves = record {
+pub stays_of : {R : Type 0} (rack : Ghosts R) → ((a b : R) (calls : List RackCall) → rack.made a calls b → After rack calls a b) → {may : RackCall → Type 0} {number l slots : ℕ} {expected : ℕ → MemberState} {y : Boundary} {old new : R}
+    → LeavesBoundary rack may number l slots expected y old new → RackStays rack old new
+stays_of rack after {may = may} {old = old} {new = new} leaves = record {
   rise = leaves.rise;
   tells = leaves.tells;
   same_rack = leaves.same_rack;
   steady_on = leaves.steady_on;
-  told_before = only_told rack after (IsCallAt number) old new leaves.made;
+  told_before = only_told rack after may old new leaves.made;
 }
 
 call_below : {s b : ℕ} → s < b → (call : RackCall) → IsCallAt s call → IsCallBelow b call
 call_below low (looks q) is = is
-call_below low (blanks q) is = omega (arith, low, is)
+call_below low (blanks q) is = is
 call_below low (calls q) is = omega (arith, low, is)
+call_below low (extends q) is = is
 
-pub own_of : {R : Type 0} (rack : Ghosts R) {number s b l slots : ℕ} {expected : ℕ → MemberState} {y : Boundary} {old new : R} → number ≡ s → s < b → LeavesBoundary rack number l slots expected y old new → CallsBelow rack b old new
+extend_below : {s b : ℕ} → s < b → (call : RackCall) → IsExtendAt s call → IsCallOrExtendBelow b call
+extend_below low (looks q) is = is
+extend_below low (blanks q) is = is
+extend_below low (calls q) is = absurd is
+extend_below low (extends q) is = omega (arith, low, is)
+
+blank_below : {s b : ℕ} → s < b → (call : RackCall) → IsBlankAt s call → IsCallOrBlankBelow b call
+blank_below low (looks q) is = is
+blank_below low (blanks q) is = omega (arith, low, is)
+blank_below low (calls q) is = absurd is
+blank_below low (extends q) is = is
+
+pub own_of : {R : Type 0} (rack : Ghosts R) {number s b l slots : ℕ} {expected : ℕ → MemberState} {y : Boundary} {old new : R} → number ≡ s → s < b
+    → LeavesBoundary rack (IsCallAt number) number l slots expected y old new → CallsBelow rack b old new
 own_of rack {number = number} {s = s} {b = b} {old = old} {new = new} at low leaves =
     let inside : number < b = omega (arith, at, low) in
     record {
       made = makes_only rack (IsCallBelow b) old new (only_such rack (IsCallAt number) (IsCallBelow b) old new (call_below inside) leaves.made);
+      other_bytes = λ q past. leaves.other_bytes q (λ here. omega (arith, past, inside, here));
+      other_faults = λ q past. leaves.other_faults q (λ here. omega (arith, past, inside, here));
+    }
+
+pub own_extended : {R : Type 0} (rack : Ghosts R) {number s b l slots : ℕ} {expected : ℕ → MemberState} {y : Boundary} {old new : R} → number ≡ s → s < b
+    → LeavesBoundary rack (IsExtendAt number) number l slots expected y old new → MadeBelow rack IsCallOrExtendBelow b old new
+own_extended rack {number = number} {s = s} {b = b} {old = old} {new = new} at low leaves =
+    let inside : number < b = omega (arith, at, low) in
+    record {
+      made = makes_only rack (IsCallOrExtendBelow b) old new (only_such rack (IsExtendAt number) (IsCallOrExtendBelow b) old new (extend_below inside) leaves.made);
+      other_bytes = λ q past. leaves.other_bytes q (λ here. omega (arith, past, inside, here));
+      other_faults = λ q past. leaves.other_faults q (λ here. omega (arith, past, inside, here));
+    }
+
+pub own_blanked : {R : Type 0} (rack : Ghosts R) {number s b l slots : ℕ} {expected : ℕ → MemberState} {y : Boundary} {old new : R} → number ≡ s → s < b
+    → LeavesBoundary rack (IsBlankAt number) number l slots expected y old new → MadeBelow rack IsCallOrBlankBelow b old new
+own_blanked rack {number = number} {s = s} {b = b} {old = old} {new = new} at low leaves =
+    let inside : number < b = omega (arith, at, low) in
+    record {
+      made = makes_only rack (IsCallOrBlankBelow b) old new (only_such rack (IsBlankAt number) (IsCallOrBlankBelow b) old new (blank_below inside) leaves.made);
       other_bytes = λ q past. leaves.other_bytes q (λ here. omega (arith, past, inside, here));
       other_faults = λ q past. leaves.other_faults q (λ here. omega (arith, past, inside, here));
     }

@@ -2,7 +2,7 @@
 use Rattle.std.specs.Prelude.{◌≡◌, ◌↔◌, ◌+◌, ◌-◌, ◌/◌, ◌^◌, ◌≤◌, ◌<◌, ℕ, List, min}
 use Rattle.dg_io.specs.Faults.{OnlyMember}
 use Rattle.dg_io.specs.Makes.{Makes}
-use Rattle.dg_io.specs.RackCalls.{RackCall, blanks, calls, looks}
+use Rattle.dg_io.specs.RackCalls.{RackCall, blanks, calls, extends, looks}
 use Rattle.dg_io.specs.Told.{IsSame, OthersSame, StillTold, Told}
 use Rattle.dg_io.specs.declared.outside.Rack.{Ghosts}
 use Rattle.dg_model.specs.Causes.{NoneRose, Rose}
@@ -10,7 +10,7 @@ use Rattle.dg_model.specs.Members.{MembersFall}
 use Rattle.dg_model.specs.States.{CountsRise}
 use Rattle.dg_model.specs.declared.members.MemberState.{MemberState}
 use Rattle.dg_model.specs.declared.members.MemberState.TheVariants.{Out}
-use Rattle.dg_pair.specs.Calls.{IsCallOf, KeepsBeside}
+use Rattle.dg_pair.specs.Calls.{IsCallOf, IsExtendOf, KeepsBeside}
 use Rattle.dg_store.specs.declared.store.Store.{Store}
 use Rattle.dg_store.specs.Stores.{IsSound, members_of, rack_of, shape_of}
 
@@ -22,21 +22,51 @@ pub record RackStays {R : Type 0} (rack : Ghosts R) (old new : R) : Type 0 where
   pub steady_on : rack.steady old ↔ rack.steady new
   pub told_before : (q : ℕ) → rack.tells new q → rack.tells old q
 
--- a call on a member of the first b boundaries, which doesn't look for it
+-- a call that reads or writes a member of the first b boundaries
 abbrev pub IsCallBelow : ℕ → RackCall → Type 0
 IsCallBelow b (looks q) = ⊥
-IsCallBelow b (blanks q) = q / 2 < b
+IsCallBelow b (blanks q) = ⊥
 IsCallBelow b (calls q) = q / 2 < b
+IsCallBelow b (extends q) = ⊥
 
--- the calls were on members of the first b boundaries alone: each other one has the bytes and the count of faults that it had
-pub record CallsBelow {R : Type 0} (rack : Ghosts R) (b : ℕ) (old new : R) : Type 0 where
-  pub made : Makes rack (IsCallBelow b) old new
+-- the same, or one that extends such a member, as a save makes them
+abbrev pub IsCallOrExtendBelow : ℕ → RackCall → Type 0
+IsCallOrExtendBelow b (looks q) = ⊥
+IsCallOrExtendBelow b (blanks q) = ⊥
+IsCallOrExtendBelow b (calls q) = q / 2 < b
+IsCallOrExtendBelow b (extends q) = q / 2 < b
+
+-- a call that reads or writes such a member, or makes it anew, as a replacement and the blank array make them
+abbrev pub IsCallOrBlankBelow : ℕ → RackCall → Type 0
+IsCallOrBlankBelow b (looks q) = ⊥
+IsCallOrBlankBelow b (blanks q) = q / 2 < b
+IsCallOrBlankBelow b (calls q) = q / 2 < b
+IsCallOrBlankBelow b (extends q) = ⊥
+
+-- any call on such a member but one that looks for it
+abbrev pub IsAnyCallBelow : ℕ → RackCall → Type 0
+IsAnyCallBelow b (looks q) = ⊥
+IsAnyCallBelow b (blanks q) = q / 2 < b
+IsAnyCallBelow b (calls q) = q / 2 < b
+IsAnyCallBelow b (extends q) = q / 2 < b
+
+-- Such calls were made, on members of the first b boundaries alone: each other one has the bytes and the count of faults that it had.
+pub record MadeBelow {R : Type 0} (rack : Ghosts R) (may : ℕ → RackCall → Type 0) (b : ℕ) (old new : R) : Type 0 where
+  pub made : Makes rack (may b) old new
   pub other_bytes : (q : ℕ) → b ≤ q / 2 → Told IsSame (rack.bytes old q) (rack.bytes new q)
   pub other_faults : (q : ℕ) → b ≤ q / 2 → (rack.counts new).faults q ≡ (rack.counts old).faults q
 
--- calls were made, each on a member that isn't out, and none makes a member anew
+-- each of the calls reads or writes
+abbrev pub CallsBelow : {R : Type 0} → Ghosts R → ℕ → R → R → Type 0
+CallsBelow rack b old new = MadeBelow rack IsCallBelow b old new
+
+-- calls were made, each reads or writes a member that isn't out
 abbrev pub CallsThoseIn : {R : Type 0} → Ghosts R → Store R → Store R → Type 0
 CallsThoseIn rack old new = Makes rack (IsCallOf (members_of old)) (rack_of old) (rack_of new)
+
+-- calls were made, each extends a member that isn't out
+abbrev pub ExtendsThoseIn : {R : Type 0} → Ghosts R → Store R → Store R → Type 0
+ExtendsThoseIn rack old new = Makes rack (IsExtendOf (members_of old)) (rack_of old) (rack_of new)
 
 -- a member whose call failed is out
 abbrev pub FailedAreOut : (ℕ → ℕ) → (ℕ → ℕ) → (ℕ → MemberState) → Type 0
@@ -54,11 +84,15 @@ OutAreIdle before now members = (q : ℕ) → members q ≡ Out → now q ≡ be
 abbrev pub KeepsOut : {R : Type 0} → Ghosts R → Store R → Store R → Type 0
 KeepsOut rack old new = OutAreIdle (rack.counts (rack_of old)).faults (rack.counts (rack_of new)).faults (members_of old)
 
--- what any call at all leaves
-pub record Stays {R : Type 0} (rack : Ghosts R) (old new : Store R) : Type 0 where
+-- what any call at all leaves, by which calls it makes of the rack
+pub record StaysBy {R : Type 0} (rack : Ghosts R) (may : ℕ → RackCall → Type 0) (old new : Store R) : Type 0 where
   pub shape : shape_of new ≡ shape_of old
   pub stays : RackStays rack (rack_of old) (rack_of new)
-  pub own : CallsBelow rack (shape_of old).b (rack_of old) (rack_of new)
+  pub own : MadeBelow rack may (shape_of old).b (rack_of old) (rack_of new)
+
+-- what any call leaves that neither makes a member anew nor extends one
+abbrev pub Stays : {R : Type 0} → Ghosts R → Store R → Store R → Type 0
+Stays rack old new = StaysBy rack IsCallBelow old new
 
 -- what a call on slots leaves: only members that aren't out are called, they only fall, and the bytes beside the slots and the lengths of
 -- members stay

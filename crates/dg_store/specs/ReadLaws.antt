@@ -6,7 +6,7 @@ use Rattle.std.proofs.lemmas.List.Sums.{sum_by-append, sum_by-cons}
 use Rattle.dg_io.specs.MadeLaws.{same_both, same_told}
 use Rattle.dg_io.specs.Makes.{Makes}
 use Rattle.dg_io.specs.MakesLaws.{makes_both, makes_none, makes_such}
-use Rattle.dg_io.specs.RackCalls.{RackCall, blanks, calls, looks}
+use Rattle.dg_io.specs.RackCalls.{RackCall, blanks, calls, extends, looks}
 use Rattle.dg_io.specs.Told.{Told, Torn}
 use Rattle.dg_io.specs.declared.outside.Rack.{Ghosts}
 use Rattle.dg_model.specs.Causes.{NoneRose}
@@ -20,7 +20,7 @@ use Rattle.dg_model.specs.declared.shapes.Shape.{Shape}
 use Rattle.dg_model.specs.declared.sites.Site.{Site}
 use Rattle.dg_pair.specs.Calls.{IsCallOf, KeepsBeside}
 use Rattle.dg_store.specs.declared.store.Store.{Store}
-use Rattle.dg_store.specs.Leaves.{CallsBelow, FailedAreOut, IsCallBelow, Keeps, OutAreIdle, RackStays, Stays}
+use Rattle.dg_store.specs.Leaves.{CallsBelow, FailedAreOut, IsAnyCallBelow, IsCallBelow, IsCallOrBlankBelow, IsCallOrExtendBelow, Keeps, MadeBelow, OutAreIdle, RackStays, Stays, StaysBy}
 use Rattle.dg_store.specs.Stores.{IsSound, Tells, TellsAll, members_of, rack_of, shape_of, table_of}
 use Rattle.dg_store.specs.Views.{Fetches, ReadsOn, is_given, is_written}
 
@@ -99,16 +99,50 @@ rises_both a b c first second = record {
   writes = omega (arith, first.writes, second.writes);
 }
 
-below_wider : (l n : ℕ) → l ≤ n → (call : RackCall) → IsCallBelow l call → IsCallBelow n call
-below_wider l n wide (looks q) is = is
-below_wider l n wide (blanks q) is = omega (arith, wide, is)
-below_wider l n wide (calls q) is = omega (arith, wide, is)
+blank_wider : (l n : ℕ) → l ≤ n → (call : RackCall) → IsCallOrBlankBelow l call → IsCallOrBlankBelow n call
+blank_wider l n wide (looks q) is = is
+blank_wider l n wide (blanks q) is = omega (arith, wide, is)
+blank_wider l n wide (calls q) is = omega (arith, wide, is)
+blank_wider l n wide (extends q) is = is
+
+-- calls that read and write are calls of which some may extend a member, or make it anew
+pub or_extend : (b : ℕ) (call : RackCall) → IsCallBelow b call → IsCallOrExtendBelow b call
+or_extend b (looks q) is = is
+or_extend b (blanks q) is = is
+or_extend b (calls q) is = is
+or_extend b (extends q) is = absurd is
+
+pub or_blank : (b : ℕ) (call : RackCall) → IsCallBelow b call → IsCallOrBlankBelow b call
+or_blank b (looks q) is = is
+or_blank b (blanks q) is = absurd is
+or_blank b (calls q) is = is
+or_blank b (extends q) is = is
+
+-- and each of these kinds is one of any calls but looks
+pub any_of_call : (b : ℕ) (call : RackCall) → IsCallBelow b call → IsAnyCallBelow b call
+any_of_call b (looks q) is = is
+any_of_call b (blanks q) is = absurd is
+any_of_call b (calls q) is = is
+any_of_call b (extends q) is = absurd is
+
+pub any_of_extend : (b : ℕ) (call : RackCall) → IsCallOrExtendBelow b call → IsAnyCallBelow b call
+any_of_extend b (looks q) is = is
+any_of_extend b (blanks q) is = absurd is
+any_of_extend b (calls q) is = is
+any_of_extend b (extends q) is = is
+
+pub any_of_blank : (b : ℕ) (call : RackCall) → IsCallOrBlankBelow b call → IsAnyCallBelow b call
+any_of_blank b (looks q) is = is
+any_of_blank b (blanks q) is = is
+any_of_blank b (calls q) is = is
+any_of_blank b (extends q) is = absurd is
 
 -- a member that isn't out in the end wasn't before
 called_before : (f g : ℕ → ℕ) (x y : ℕ → MemberState) → MembersFall f g x y → (call : RackCall) → IsCallOf y call → IsCallOf x call
 called_before f g x y falls (looks q) is = is
 called_before f g x y falls (blanks q) is = is
 called_before f g x y falls (calls q) is = λ out. is (stays_out f g x y q falls out)
+called_before f g x y falls (extends q) is = is
 
 none_failed : (m : MemberState) (n : ℕ) → n < n → m ≡ Out
 none_failed m n rose = absurd (omega (arith, rose))
@@ -143,26 +177,43 @@ module _ {R : Type 0} (rack : Ghosts R) where
     told_before = λ q h. first.told_before q (second.told_before q h);
   }
 
-  pub own_none : (b : ℕ) (r : R) → CallsBelow rack b r r
-  own_none b r = record {
-    made = makes_none rack (IsCallBelow b) r;
+  pub below_none : {may : ℕ → RackCall → Type 0} (b : ℕ) (r : R) → MadeBelow rack may b r r
+  below_none {may = may} b r = record {
+    made = makes_none rack (may b) r;
     other_bytes = λ q past. same_told (rack.bytes r q);
     other_faults = λ q past. refl;
   }
 
-  pub own_both : (l : ℕ) (a b c : R) → CallsBelow rack l a b → CallsBelow rack l b c → CallsBelow rack l a c
-  own_both l a b c first second = record {
-    made = makes_both rack (IsCallBelow l) a b c first.made second.made;
+  pub own_none : (b : ℕ) (r : R) → CallsBelow rack b r r
+  own_none b r = below_none b r
+
+  pub own_both : {may : ℕ → RackCall → Type 0} (l : ℕ) (a b c : R) → MadeBelow rack may l a b → MadeBelow rack may l b c → MadeBelow rack may l a c
+  own_both {may = may} l a b c first second = record {
+    made = makes_both rack (may l) a b c first.made second.made;
     other_bytes = λ q past. same_both _ _ _ (first.other_bytes q past) (second.other_bytes q past);
     other_faults = λ q past. second.other_faults q past ∙ first.other_faults q past;
   }
 
-  pub own_wider : (l n : ℕ) (a b : R) → l ≤ n → CallsBelow rack l a b → CallsBelow rack n a b
+  pub own_wider : (l n : ℕ) (a b : R) → l ≤ n → MadeBelow rack IsCallOrBlankBelow l a b → MadeBelow rack IsCallOrBlankBelow n a b
   own_wider l n a b wide own = record {
-    made = makes_such rack (IsCallBelow l) (IsCallBelow n) (below_wider l n wide) a b own.made;
+    made = makes_such rack (IsCallOrBlankBelow l) (IsCallOrBlankBelow n) (blank_wider l n wide) a b own.made;
     other_bytes = λ q past. own.other_bytes q (omega (arith, wide, past));
     other_faults = λ q past. own.other_faults q (omega (arith, wide, past));
   }
+
+  -- calls of one kind are calls of a wider one
+  pub own_such : (may such : ℕ → RackCall → Type 0) → ((b : ℕ) (call : RackCall) → may b call → such b call) → (b : ℕ) (x y : R) → MadeBelow rack may b x y → MadeBelow rack such b x y
+  own_such may such h b x y own = record {
+    made = makes_such rack (may b) (such b) (h b) x y own.made;
+    other_bytes = own.other_bytes;
+    other_faults = own.other_faults;
+  }
+
+  pub own_or_extend : (b : ℕ) (x y : R) → CallsBelow rack b x y → MadeBelow rack IsCallOrExtendBelow b x y
+  own_or_extend b x y own = own_such IsCallBelow IsCallOrExtendBelow or_extend b x y own
+
+  pub own_or_blank : (b : ℕ) (x y : R) → CallsBelow rack b x y → MadeBelow rack IsCallOrBlankBelow b x y
+  own_or_blank b x y own = own_such IsCallBelow IsCallOrBlankBelow or_blank b x y own
 
   -- members that are called in the end weren't out before
   pub called_both : (f g : ℕ → ℕ) (x y : ℕ → MemberState) (a b c : R) → MembersFall f g x y → Makes rack (IsCallOf x) a b → Makes rack (IsCallOf y) b c → Makes rack (IsCallOf x) a c
@@ -170,10 +221,16 @@ module _ {R : Type 0} (rack : Ghosts R) where
 
   -- ---- stores
 
-  pub stays_none : (s : Store R) → Stays rack s s
-  stays_none s = record { shape = refl; stays = rack_none (rack_of s); own = own_none (shape_of s).b (rack_of s) }
+  pub stays_none : {may : ℕ → RackCall → Type 0} (s : Store R) → StaysBy rack may s s
+  stays_none s = record { shape = refl; stays = rack_none (rack_of s); own = below_none (shape_of s).b (rack_of s) }
 
-  pub stays_both : (a b c : Store R) → Stays rack a b → Stays rack b c → Stays rack a c
+  pub stays_or_extend : (a b : Store R) → Stays rack a b → StaysBy rack IsCallOrExtendBelow a b
+  stays_or_extend a b stays = record { shape = stays.shape; stays = stays.stays; own = own_or_extend (shape_of a).b (rack_of a) (rack_of b) stays.own }
+
+  pub stays_or_blank : (a b : Store R) → Stays rack a b → StaysBy rack IsCallOrBlankBelow a b
+  stays_or_blank a b stays = record { shape = stays.shape; stays = stays.stays; own = own_or_blank (shape_of a).b (rack_of a) (rack_of b) stays.own }
+
+  pub stays_both : {may : ℕ → RackCall → Type 0} (a b c : Store R) → StaysBy rack may a b → StaysBy rack may b c → StaysBy rack may a c
   stays_both a b c first second = record {
     shape = second.shape ∙ first.shape;
     stays = rack_both (rack_of a) (rack_of b) (rack_of c) first.stays second.stays;

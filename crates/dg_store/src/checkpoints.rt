@@ -15,6 +15,7 @@ impl<R: Checkpoint> Store<R> {
         requires stand { (q : ℕ) → is_marked keep q ≡ true → R.stands (rack_of self.old) q ≡ true }
         requires fits { IfSome (R.room_of (rack_of self.old)) (λ room. length extra.now ≤ room) }
         ensures leaves { CommitLeaves R.Rack R.room_of keep extra.now result self.old self.new }
+        ensures commits { R.commits (rack_of self.old) (rack_of self.new) }
     {
         self.rack.commit(keep, extra)
     }

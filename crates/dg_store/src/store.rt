@@ -11,8 +11,8 @@ ghost use Rattle.dg_model.specs.Tables.{Table, IsTable, count_on, sites_in, used
 ghost use Rattle.dg_pair.specs.Boundaries.{IsWell, completed, number_of, members_of as boundary_members, raised, unfilled};
 ghost use Rattle.dg_pair.specs.Calls.{KeepsBeside, copied, replaced};
 ghost use Rattle.dg_store.specs.Answers.{ChangesAt, HasAllSlots, HasFreeSlot, HasNextSlot, IsAllLost, IsBlankStore, IsFull, IsPlaced, IsStored, IsUnchanged, SameWritten, reaped};
-ghost use Rattle.dg_store.specs.Leaves.{BytesChange, CallsAtMost, CallsThoseIn, FaultRose, HasCalled, HasWritten, KeepsOut, Leaves, NoFault};
-ghost use Rattle.dg_store.specs.Leaves.{OnlyBytesOf, OnlyFaultsOf, PutsOut, Stays};
+ghost use Rattle.dg_store.specs.Leaves.{BytesChange, CallsAtMost, CallsThoseIn, ExtendsThoseIn, FaultRose, HasCalled, HasWritten, IsCallOrBlankBelow, IsCallOrExtendBelow, KeepsOut, Leaves};
+ghost use Rattle.dg_store.specs.Leaves.{NoFault, OnlyBytesOf, OnlyFaultsOf, PutsOut, Stays, StaysBy};
 ghost use Rattle.dg_store.specs.Rows.{IsRow, members_in};
 ghost use Rattle.dg_store.specs.Slots.{PutsBlock, SitesTell};
 ghost use Rattle.dg_store.specs.Stores.{rack_of, table_of, shape_of, members_of, HasBlock, IsSound, IsWhole, KeepsBlocks, SetsBlock, Tells, lost_bits};
@@ -343,7 +343,7 @@ impl<R: Rack> Store<R> {
         requires side { side < 2 }
         requires size { length_of 1 (shape_of self.old) ≤ size }
         ensures sound { IsSound R.Rack self.new }
-        ensures stays { Stays R.Rack self.old self.new }
+        ensures stays { StaysBy R.Rack IsCallOrBlankBelow self.old self.new }
         ensures faulty { PutsOut R.Rack self.old self.new }
         ensures table { table_of self.new ≡ table_of self.old }
         ensures lost { (result ≡ ReplaceAnswer.Lost) ↔ (is_lost (members_of self.old) boundary ≡ true) }
@@ -464,8 +464,8 @@ impl<R: Rack> Store<R> {
         requires longer { members_of self.old (2 * boundary + side) ≡ MemberState.Good
             → IfSome (R.bytes (rack_of self.old) (2 * boundary + side)) (FitsIn size) }
         ensures sound { IsSound R.Rack self.new }
-        ensures stays { Stays R.Rack self.old self.new }
-        ensures called { CallsThoseIn R.Rack self.old self.new }
+        ensures stays { StaysBy R.Rack IsCallOrExtendBelow self.old self.new }
+        ensures called { ExtendsThoseIn R.Rack self.old self.new }
         ensures idle { KeepsOut R.Rack self.old self.new }
         ensures faulty { PutsOut R.Rack self.old self.new }
         ensures table { table_of self.new ≡ table_of self.old }

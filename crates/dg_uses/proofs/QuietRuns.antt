@@ -29,7 +29,7 @@ use Rattle.dg_uses.proofs.Seated.{IsSeated, blank_seated, run_sits, sits_next, s
 happens_less : {K J : Type 0} → (J → K) → (kind : Kind) (old : Moment) (event : Event) (reply : Reply) (new : Moment) → Happens K kind old event reply new
     → Happens J kind old event reply new
 happens_less w kind old event reply new h =
-    record { step = step_less w old.state event reply new.state h.step; allowed = h.allowed; rise = h.rise; tied = h.tied }
+    record { step = step_less w old.state event reply new.state h.step; allowed = h.allowed; rise = h.rise; tied = tied_less w kind old event reply new h.tied }
 
 pub history_less : {K J : Type 0} → (J → K) → (kind : Kind) (old : Moment) (events : List Event) (replies : List Reply) (new : Moment)
     → History K kind old events replies new → History J kind old events replies new
@@ -125,7 +125,7 @@ pub quiet_history : (Known : Type 0) (before : Counts) (shape : Shape) (events :
 quiet_history Known before shape events [] final most stay h = absurd h
 quiet_history Known before shape events (Done ∷ replies) final most stay h =
     let blank : State = h.0.state in
-    let made : Makes plain (Array shape) shape before h.0 = h.1 in
+    let made : Makes Known plain (Array shape) shape before h.0 = h.1 in
     let run = history_runs Known plain h.0 events replies final h.2 in
     let seat = blank_seated shape made.first blank most made.is_blank in
     let size : blank.table.shape.b ≡ shape.b = ap (λ (s : State). s.table.shape.b) made.is_blank.is in

@@ -18,6 +18,7 @@ use Rattle.dg_model.specs.declared.events.Event.TheVariants.{Save}
 use Rattle.dg_model.specs.declared.members.MemberState.TheVariants.{Out}
 use Rattle.dg_model.specs.declared.replies.Reply.TheVariants.{Lost, Saved}
 use Rattle.dg_model.specs.declared.shapes.Shape.{Shape}
+use Rattle.dg_store.specs.Leaves.{IsCallOrExtendBelow}
 use Rattle.dg_store.specs.Stores as stores
 use Rattle.dg_store.specs.declared.store.Store.{Store}
 use Rattle.dg_volume.proofs.CommitSteps.{commit_goes, left_at, passes_at, saves_at}
@@ -26,19 +27,20 @@ use Rattle.dg_volume.proofs.UseLaws.{least_here}
 use Rattle.dg_volume.proofs.VolumeLaws.{leaves_none}
 use Rattle.dg_volume.specs.Commits.{CommitsArray, committed, left_on}
 use Rattle.dg_volume.specs.Copies.{StepsHot}
+use Rattle.dg_volume.specs.HeldLaws.{leaves_or_extend}
 use Rattle.dg_volume.specs.Regroups.{GoesOn}
 use Rattle.dg_volume.specs.Settles.{KeepsArray}
-use Rattle.dg_volume.specs.Volumes.{IsWell, Leaves, line_of, live_of, members_of, shape_of, state_of}
+use Rattle.dg_volume.specs.Volumes.{IsWell, LeavesBy, line_of, live_of, members_of, shape_of, state_of}
 use Rattle.dg_volume.specs.declared.phases.InPhase as phases
 use Rattle.dg_volume.specs.declared.volumes.Volume.{Volume}
 
 module _ {S R : Type 0} (phase : phases.Ghosts S) (rack : Ghosts R) where
   -- nothing was done
-  pub untouched : (a : Volume S R) → IsWell phase rack a → Leaves phase phase rack a a × KeepsArray rack a a
-  untouched a well = (leaves_none phase rack a well, λ told V held. held)
+  pub untouched : (a : Volume S R) → IsWell phase rack a → LeavesBy phase phase rack IsCallOrExtendBelow a a × KeepsArray rack a a
+  untouched a well = (leaves_or_extend phase phase rack a a (leaves_none phase rack a well), λ told V held. held)
 
   -- a save, and then calls behind it
-  pub goes_behind : (a m b : Volume S R) → Leaves phase phase rack a m → GoesOn phase rack m b → GoesOn phase rack a b
+  pub goes_behind : (a m b : Volume S R) → LeavesBy phase phase rack IsCallOrExtendBelow a m → GoesOn phase rack m b → GoesOn phase rack a b
   goes_behind a m b first second =
       let rise = first.rise in
       record {
@@ -50,26 +52,26 @@ module _ {S R : Type 0} (phase : phases.Ghosts S) (rack : Ghosts R) where
       }
 
   -- some member is good
-  pub steps_kept : (room : R → Option ℕ) (extra : List ℕ) (answer : CommitAnswer) (hot : List ℕ) (sequence : ℕ) (a m : Volume S R) (store : Store R) → IsWell phase rack m
-      → CommitsArray rack room extra answer m.store store → StepsHot phase phase rack hot a Save (Saved sequence) m → HasGood store
+  pub steps_kept : (room : R → Option ℕ) (goes : R → R → Type 0) (extra : List ℕ) (answer : CommitAnswer) (hot : List ℕ) (sequence : ℕ) (a m : Volume S R) (store : Store R) → IsWell phase rack m
+      → CommitsArray rack room goes extra answer m.store store → StepsHot phase phase rack hot a Save (Saved sequence) m → HasGood store
       → StepsHot phase phase rack hot a Save (Saved sequence) (record m { store = store })
-  steps_kept room extra answer hot sequence a m store well h steps good origin state st recent =
+  steps_kept room goes extra answer hot sequence a m store well h steps good origin state st recent =
       let go = steps origin state st recent in (
         committed rack (record m { store = store }) go.0 (option_map (left_on (stores.members_of store)) go.0.label),
-        left_at phase rack room extra answer m store h origin go.0 go.1,
-        saves_at phase rack room extra answer m store h origin state go.0 sequence well go.1 go.2 good,
+        left_at phase rack room goes extra answer m store h origin go.0 go.1,
+        saves_at phase rack room goes extra answer m store h origin state go.0 sequence well go.1 go.2 good,
         go.3,
       )
 
   -- ---- no member is good: the label is the one that was kept before
 
-  module _ (room : R → Option ℕ) (extra : List ℕ) (answer : CommitAnswer) (a m : Volume S R) (store : Store R) (well : IsWell phase rack a) (saved : Leaves phase phase rack a m)
-      (h : CommitsArray rack room extra answer m.store store) (none : HasNoGood store) where
+  module _ (room : R → Option ℕ) (goes : R → R → Type 0) (extra : List ℕ) (answer : CommitAnswer) (a m : Volume S R) (store : Store R) (well : IsWell phase rack a) (saved : LeavesBy phase phase rack IsCallOrExtendBelow a m)
+      (h : CommitsArray rack room goes extra answer m.store store) (none : HasNoGood store) where
     abbrev after : Volume S R
     after = record m { store = store; label = a.label }
 
     on : GoesOn phase rack m (record m { store = store })
-    on = commit_goes phase rack room extra answer m store h saved.well
+    on = commit_goes phase rack room goes extra answer m store h saved.well
 
     -- a member that is refilled has a good partner
     out_each : (q : ℕ) → stores.members_of store q ≢ Out → ⊥
@@ -155,7 +157,7 @@ module _ {S R : Type 0} (phase : phases.Ghosts S) (rack : Ghosts R) where
         let go = steps origin state st recent in
         let last : Option LastLabel = option_map forgotten state.label in
         let next : State = committed rack after go.0 last in
-        let left = left_at phase rack room extra answer m store h origin go.0 go.1 in
+        let left = left_at phase rack room goes extra answer m store h origin go.0 go.1 in
         let is : next ≡ state_of phase rack after next next.blocks = λ i. record (left.is i) { label = last } in
         let save = go.2 in (
           next,
@@ -167,7 +169,7 @@ module _ {S R : Type 0} (phase : phases.Ghosts S) (rack : Ghosts R) where
           (
             subst (λ (x : State). IsLeastLostIn x (boundary_at (live_of m) 0)) (sym is) (least_here after 0 after_well.in_use first_lost),
             record {
-              passes = passes_at phase rack room extra answer m store h origin state go.0 saved.well go.1 (ap (λ (x : State). x.table) save.rest) save.passes last;
+              passes = passes_at phase rack room goes extra answer m store h origin state go.0 saved.well go.1 (ap (λ (x : State). x.table) save.rest) save.passes last;
               none = none;
               rest = λ i. record (save.rest i) { members = stores.members_of store; counts = rack.counts (stores.rack_of store); label = last };
             },

@@ -145,12 +145,13 @@ module _ {R : Type 0} (rack : Ghosts R) where
     ])
   ]
 
-  pub commits_array : (room : R → Option ℕ) (keep : ℕ) (extra : List ℕ) (answer : CommitAnswer) (old mid new : Store R) → AreGoodBits (members_of old) keep
-      → CommitLeaves rack room keep extra answer old mid → FailsMarked rack (fell_in keep answer) mid new → IsSound rack new → CommitsArray rack room extra answer old new
-  commits_array room keep extra answer old mid new good h fails sound = record {
+  pub commits_array : (room : R → Option ℕ) (goes : R → R → Type 0) (keep : ℕ) (extra : List ℕ) (answer : CommitAnswer) (old mid new : Store R) → AreGoodBits (members_of old) keep
+      → CommitLeaves rack room keep extra answer old mid → goes (rack_of old) (rack_of mid) → FailsMarked rack (fell_in keep answer) mid new → IsSound rack new → CommitsArray rack room goes extra answer old new
+  commits_array room goes keep extra answer old mid new good h went fails sound = record {
     keep = keep;
     good = good;
     leaves = subst (λ (r : R). LeavesCommit rack room keep extra answer (rack_of old) r) (sym fails.rack_is) h.leaves;
+    beside = subst (λ (r : R). goes (rack_of old) r) (sym fails.rack_is) went;
     sound = sound;
     table = fails.table ∙ h.table;
     members = subst (λ (m : ℕ → MemberState). AreFailed (fell_in keep answer) m (members_of new)) h.members fails.members;
@@ -176,7 +177,7 @@ module _ (fell : ℕ) (old new : ℕ → MemberState) (h : AreFailed fell old ne
   pub failed_fills : (q : ℕ) → is_filling (new q) ≡ true → is_filling (old q) ≡ true
   failed_fills q fills = elim (still_or_out q) [ inl still ↦ sym (ap is_filling still) ∙ fills | inr out ↦ absurd (false≢true (sym (ap is_filling out) ∙ fills)) ]
 
-module _ {R : Type 0} (rack : Ghosts R) (room : R → Option ℕ) (extra : List ℕ) (answer : CommitAnswer) (a b : Store R) (h : CommitsArray rack room extra answer a b) where
+module _ {R : Type 0} (rack : Ghosts R) (room : R → Option ℕ) (goes : R → R → Type 0) (extra : List ℕ) (answer : CommitAnswer) (a b : Store R) (h : CommitsArray rack room goes extra answer a b) where
   pub told_commit : StaysTold rack a b
   told_commit =
       let fell = fell_in h.keep answer in

@@ -35,13 +35,13 @@ narrowed true y back = refl
 narrowed false true back = absurd (false≢true (back refl))
 narrowed false false back = refl
 
-module _ {S R : Type 0} (phase : phases.Ghosts S) (rack : Ghosts R) (room : R → Option ℕ) (extra : List ℕ) (answer : CommitAnswer) (a : Volume S R) (store : Store R)
-    (h : CommitsArray rack room extra answer a.store store) where
+module _ {S R : Type 0} (phase : phases.Ghosts S) (rack : Ghosts R) (room : R → Option ℕ) (goes : R → R → Type 0) (extra : List ℕ) (answer : CommitAnswer) (a : Volume S R) (store : Store R)
+    (h : CommitsArray rack room goes extra answer a.store store) where
   abbrev after : Volume S R
   after = record a { store = store }
 
   told : StaysTold rack a.store store
-  told = told_commit rack room extra answer a.store store h
+  told = told_commit rack room goes extra answer a.store store h
 
   pub commit_goes : IsWell phase rack a → GoesOn phase rack a after
   commit_goes well =
@@ -96,7 +96,7 @@ module _ {S R : Type 0} (phase : phases.Ghosts S) (rack : Ghosts R) (room : R �
         counts = rises_both before.counts (rack.counts (rack_of a)) (rack.counts (stores.rack_of store)) first h.leaves.rise;
         members =
             falls_both before.counts.faults (rack.counts (rack_of a)).faults (rack.counts (stores.rack_of store)).faults before.members (members_of a) (stores.members_of store)
-            first.faults h.leaves.rise.faults falls (commit_falls rack room extra answer a.store store h);
+            first.faults h.leaves.rise.faults falls (commit_falls rack room goes extra answer a.store store h);
         paired = h.sound.paired;
         faults = record {
           fell = λ q below rose. elim (cases_Bool (is_marked (fell_in h.keep answer) q)) [
@@ -105,9 +105,9 @@ module _ {S R : Type 0} (phase : phases.Ghosts S) (rack : Ghosts R) (room : R �
           ];
           beyond = λ q past.
               let out : members_of a q ≡ Out = well.array.others q (let b = ap (λ (t : Table). t.shape.b) same in omega (arith, b, past)) in
-              idle_commit rack room extra answer a.store store h q (ap is_good out) ∙ p.faults.beyond q past;
+              idle_commit rack room goes extra answer a.store store h q (ap is_good out) ∙ p.faults.beyond q past;
         };
-        out = λ q out. idle_commit rack room extra answer a.store store h q (bad_still q out) ∙ p.out q out;
+        out = λ q out. idle_commit rack room goes extra answer a.store store h q (bad_still q out) ∙ p.out q out;
       }
     where
       bad_still : (q : ℕ) → before.members q ≡ Out → is_good (members_of a q) ≡ false
@@ -161,14 +161,14 @@ module _ {S R : Type 0} (phase : phases.Ghosts S) (rack : Ghosts R) (room : R �
       (saves_from before state state.blocks sequence well (subst (λ (x : State). Saves before sequence x) st.is s) some)
 
 -- all of it
-pub commits : {S R : Type 0} (phase : phases.Ghosts S) (rack : Ghosts R) (room : R → Option ℕ) (answer : CommitAnswer) (a : Volume S R) (store : Store R) → IsWell phase rack a
-    → CommitsArray rack room (extra_bytes (extra_of a)) answer a.store store → Commits phase rack room a answer (record a { store = store })
-commits phase rack room answer a store well h =
+pub commits : {S R : Type 0} (phase : phases.Ghosts S) (rack : Ghosts R) (room : R → Option ℕ) (goes : R → R → Type 0) (answer : CommitAnswer) (a : Volume S R) (store : Store R) → IsWell phase rack a
+    → CommitsArray rack room goes (extra_bytes (extra_of a)) answer a.store store → Commits phase rack room goes a answer (record a { store = store })
+commits phase rack room goes answer a store well h =
     let extra = extra_bytes (extra_of a) in
     record {
       array = h;
-      states = states_at phase rack room extra answer a store h;
-      left = left_at phase rack room extra answer a store h;
-      passes = λ origin before state st. passes_at phase rack room extra answer a store h origin before state well st;
-      saves = λ origin before state sequence st. saves_at phase rack room extra answer a store h origin before state sequence well st;
+      states = states_at phase rack room goes extra answer a store h;
+      left = left_at phase rack room goes extra answer a store h;
+      passes = λ origin before state st. passes_at phase rack room goes extra answer a store h origin before state well st;
+      saves = λ origin before state sequence st. saves_at phase rack room goes extra answer a store h origin before state sequence well st;
     }

@@ -1,15 +1,16 @@
 -- What calls leave of an array, and of the counts of faults.
 use Rattle.std.proofs.Common.{◌≡◌, ◌∙◌, ◌<◌, ◌≤◌, ◌/◌, ℕ, Bool, List, inl, inr, ap, sym, subst, arith}
 use Rattle.std.proofs.lemmas.Bool.{cases_lt}
+use Rattle.dg_io.specs.RackCalls.{RackCall}
 use Rattle.dg_io.specs.declared.outside.Rack.{Ghosts}
-use Rattle.dg_label.specs.Seals.{KeepsArray}
+use Rattle.dg_label.specs.Seals.{KeepsArray, KeepsArrayBy}
 use Rattle.dg_model.specs.Members.{MembersFall}
 use Rattle.dg_model.specs.declared.members.MemberState.{MemberState}
 use Rattle.dg_model.specs.declared.members.MemberState.TheVariants.{Out}
 use Rattle.dg_model.specs.declared.shapes.Shape.{Shape}
 use Rattle.dg_rebuild.specs.Passed.{Passed}
 use Rattle.dg_store.specs.Answers.{IsBlankStore}
-use Rattle.dg_store.specs.Leaves.{CallsBelow, Keeps, Stays}
+use Rattle.dg_store.specs.Leaves.{Keeps, MadeBelow, Stays}
 use Rattle.dg_store.specs.ReadLaws.{own_both}
 use Rattle.dg_store.specs.Stores.{members_of, rack_of, shape_of}
 use Rattle.dg_store.specs.declared.store.Store.{Store}
@@ -26,10 +27,10 @@ module _ {R : Type 0} (rack : Ghosts R) where
   stays_by a b h = record { shape = h.shape; stays = h.stays; own = h.own }
 
   -- calls on its members, and then again
-  pub own_then : (a b c : Store R) → shape_of b ≡ shape_of a → CallsBelow rack (shape_of a).b (rack_of a) (rack_of b)
-      → CallsBelow rack (shape_of b).b (rack_of b) (rack_of c) → CallsBelow rack (shape_of a).b (rack_of a) (rack_of c)
-  own_then a b c shape first second =
-      own_both rack (shape_of a).b (rack_of a) (rack_of b) (rack_of c) first (subst (λ (s : Shape). CallsBelow rack s.b (rack_of b) (rack_of c)) shape second)
+  pub own_then : {may : ℕ → RackCall → Type 0} (a b c : Store R) → shape_of b ≡ shape_of a → MadeBelow rack may (shape_of a).b (rack_of a) (rack_of b)
+      → MadeBelow rack may (shape_of b).b (rack_of b) (rack_of c) → MadeBelow rack may (shape_of a).b (rack_of a) (rack_of c)
+  own_then {may = may} a b c shape first second =
+      own_both rack (shape_of a).b (rack_of a) (rack_of b) (rack_of c) first (subst (λ (s : Shape). MadeBelow rack may s.b (rack_of b) (rack_of c)) shape second)
 
   -- ---- one call after another
 
@@ -65,10 +66,10 @@ module _ {R : Type 0} (rack : Ghosts R) where
   keeps_outs a b h = h.idle
 
   -- calls beside the slots
-  pub array_tells : (a b : Store R) → KeepsArray rack a b → TellsFaults rack a b
+  pub array_tells : {may : ℕ → RackCall → Type 0} (a b : Store R) → KeepsArrayBy rack may a b → TellsFaults rack a b
   array_tells a b h = record { fell = λ q below rose. h.fell q rose; beyond = h.stays.own.other_faults }
 
-  pub array_outs : (a b : Store R) → KeepsArray rack a b → OutsStay rack a b
+  pub array_outs : {may : ℕ → RackCall → Type 0} (a b : Store R) → KeepsArrayBy rack may a b → OutsStay rack a b
   array_outs a b h = h.idle
 
   -- a refill, by what it says of the slots that it passed

@@ -12,7 +12,7 @@ use Rattle.dg_io.specs.MadeLaws.{same_both}
 use Rattle.dg_io.specs.Makes.{Makes}
 use Rattle.dg_io.specs.MakesLaws.{makes_both, makes_such}
 use Rattle.dg_io.specs.RackCalls.{RackCall}
-use Rattle.dg_io.specs.RackCalls.RackCall.{looks, blanks, calls}
+use Rattle.dg_io.specs.RackCalls.RackCall.{looks, blanks, calls, extends}
 use Rattle.dg_io.specs.Told.{IsSame, Told, Torn}
 use Rattle.dg_io.specs.declared.outside.Rack.{Ghosts}
 use Rattle.dg_label.specs.Labels.{HasLength, IsLabeled, StandsLabeled}
@@ -505,6 +505,7 @@ module _ (one : OneOwner) (none : NoSystem) {R : Type 0} (rack : Ghosts R) (befo
         | inl low ↦ low
         | inr high ↦ let few = found.sound.table.shape.most_boundaries in absurd (is (found.sound.others q (omega (arith, high, few))))
       ]
+      of_opening (extends q) is = absurd is
 
   in_use_fits : FitsReduced (table_of volume) (reduced_of volume)
   in_use_fits = subst (λ (t : Table). FitsReduced t (reduced_of volume)) (sym made.reads.reads.table) fits

@@ -23,9 +23,9 @@ use Rattle.dg_model.specs.declared.replies.Reply.TheVariants.{Done, Failed as Fa
 use Rattle.dg_pair.specs.Calls.{replaced}
 use Rattle.dg_pair.specs.declared.boundaries.ReplaceAnswer.{ReplaceAnswer}
 use Rattle.dg_pair.specs.declared.boundaries.ReplaceAnswer.TheVariants.{Failed, Lost, NotOut, Replaced}
-use Rattle.dg_store.specs.Leaves.{BytesChange, FaultRose, OnlyBytesOf, OnlyFaultsOf}
+use Rattle.dg_store.specs.Leaves.{BytesChange, FaultRose, IsCallOrBlankBelow, OnlyBytesOf, OnlyFaultsOf}
 use Rattle.dg_store.specs.Leaves as arrays
-use Rattle.dg_store.specs.ReadLaws.{rises_both}
+use Rattle.dg_store.specs.ReadLaws.{own_or_blank, rises_both}
 use Rattle.dg_store.specs.Stores.{IsSound, KeepsBlocks}
 use Rattle.dg_store.specs.Stores as stores
 use Rattle.dg_store.specs.declared.store.Store.{Store}
@@ -44,11 +44,11 @@ use Rattle.dg_volume.proofs.LabelLaws.{
   same_numbers,
   torn_none,
 }
-use Rattle.dg_volume.proofs.VolumeLaws.{IsBeside, Keeps, Labels, kept_state, label_by, leaves, on_label, quiet_in, same_in, stays, steps_from, still_in}
+use Rattle.dg_volume.proofs.VolumeLaws.{IsBeside, KeepsBy, Labels, kept_state, label_by, leaves, on_label, quiet_in, same_in, stays, steps_from, still_in}
 use Rattle.dg_volume.proofs.VolumeSteps.{false_of}
 use Rattle.dg_volume.specs.Faults.{OutsStay, TellsFaults, faults_of}
 use Rattle.dg_volume.specs.Seals.{OpensWhere, Relabels}
-use Rattle.dg_volume.specs.Volumes.{HasLabel, IsWell, Known, Leaves, StandsFor, StandsIn, StandsUnder, StepsTo, line_of, marks_by, members_of, rack_of, shape_of, state_of, table_of}
+use Rattle.dg_volume.specs.Volumes.{HasLabel, IsWell, Known, LeavesBy, StandsFor, StandsIn, StandsUnder, StepsTo, line_of, marks_by, members_of, rack_of, shape_of, state_of, table_of}
 use Rattle.dg_volume.specs.declared.phases.InPhase as phases
 use Rattle.dg_volume.specs.declared.volumes.Volume.{Volume}
 
@@ -115,7 +115,7 @@ module _ {S R : Type 0} (phase : phases.Ghosts S) (rack : Ghosts R) where
     pub live : writes ≡ true → is_lost (members_of a) s ≡ false
     pub other : writes ≡ false → (members_of a (2 * s + j) ≢ Out) ⊎ (is_lost (members_of a) s ≡ true)
     pub sound : IsSound rack b.store
-    pub left : arrays.Stays rack m b.store
+    pub left : arrays.StaysBy rack IsCallOrBlankBelow m b.store
     pub table : table_of b ≡ stores.table_of m
     pub lost : (answer ≡ Lost) ↔ (is_lost (stores.members_of m) s ≡ true)
     pub not_out : (answer ≡ NotOut) ↔ (stores.members_of m (2 * s + j) ≢ Out)
@@ -431,7 +431,7 @@ module _ {S R : Type 0} (phase : phases.Ghosts S) (rack : Ghosts R) where
 
     -- ---- what is left
 
-    replace_keeps : Keeps phase rack a b
+    replace_keeps : KeepsBy phase rack IsCallOrBlankBelow a b
     replace_keeps = record {
       beside = h.beside;
       labeled = h.labeled;
@@ -441,7 +441,8 @@ module _ {S R : Type 0} (phase : phases.Ghosts S) (rack : Ghosts R) where
       rise = rises_both (rack.counts (rack_of a)) (rack.counts (stores.rack_of m)) (rack.counts (rack_of b)) h.opening.array.stays.stays.rise h.left.stays.rise;
       tells = λ q told. h.opening.array.stays.stays.tells q (h.left.stays.tells q told);
       told_before = λ q told. h.opening.array.stays.stays.told_before q (h.left.stays.told_before q told);
-      own = own_then rack a.store m b.store h.opening.array.stays.shape h.opening.array.stays.own h.left.own;
+      own = own_then rack a.store m b.store h.opening.array.stays.shape
+          (own_or_blank rack (shape_of a).b (rack_of a) (stores.rack_of m) h.opening.array.stays.own) h.left.own;
       same_rack = h.left.stays.same_rack ∙ h.opening.array.stays.stays.same_rack;
       back = λ q good. mid_good q (recovers_none q good);
       stands = λ V held. h.stands V (h.opening.array.stands V held);
@@ -515,7 +516,7 @@ module _ {S R : Type 0} (phase : phases.Ghosts S) (rack : Ghosts R) where
         (λ q out. same_members none q ∙ out) (λ q fills. ap is_filling (sym (same_members none q)) ∙ fills) holds
 
   pub replace_leaves : (a : Volume S R) (s j : ℕ) (answer : ReplaceAnswer) (writes : Bool) (m : Store R) (b : Volume S R) → IsWell phase rack a → HasReplaced a s j answer writes m b
-      → Leaves phase phase rack a b
+      → LeavesBy phase phase rack IsCallOrBlankBelow a b
   replace_leaves a s j answer writes m b well h = leaves phase rack a b well (replace_keeps a s j answer writes m b h)
 
   module _ (a : Volume S R) (s j : ℕ) (answer : ReplaceAnswer) (writes : Bool) (m : Store R) (b : Volume S R) (h : HasReplaced a s j answer writes m b) (rest : State) (V : List (List ℕ)) where

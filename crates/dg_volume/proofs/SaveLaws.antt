@@ -9,7 +9,7 @@ use Rattle.std.proofs.lemmas.List.{get_or_past, map-append, take_more}
 use Rattle.std.proofs.lemmas.List.FromFn.{get_or-map-range_with_len, length-map-range_with_len, map-range_with_len_more}
 use Rattle.dg_io.specs.declared.outside.Rack.{Ghosts}
 use Rattle.dg_label.specs.Labels.{AreSized, IsKeptOf, IsLabeled, IsOfBoundariesInUse, StandsLabeled, next_number}
-use Rattle.dg_label.specs.Seals.{AnswersSave, HasNoGood, KeepsArray, saved_label}
+use Rattle.dg_label.specs.Seals.{AnswersSave, HasNoGood, KeepsArrayBy, saved_label}
 use Rattle.dg_label.specs.declared.labels.KeptLabel.{KeptLabel}
 use Rattle.dg_label.specs.declared.saves.SaveAnswer.{SaveAnswer}
 use Rattle.dg_label.specs.declared.saves.SaveAnswer.TheVariants.{Lost, Saved}
@@ -35,6 +35,7 @@ use Rattle.dg_model.specs.declared.replies.Reply.TheVariants.{Lost as LostReply,
 use Rattle.dg_model.specs.declared.shapes.Shape.{Shape}
 use Rattle.dg_model.specs.declared.sites.Site.{Site}
 use Rattle.dg_save.specs.Parts.{rows_in}
+use Rattle.dg_store.specs.Leaves.{IsCallOrExtendBelow}
 use Rattle.dg_store.specs.Stores.{IsSound}
 use Rattle.dg_store.specs.Stores as stores
 use Rattle.dg_store.specs.declared.store.Store.{Store}
@@ -47,7 +48,7 @@ use Rattle.dg_volume.specs.Copies.{StepsHot}
 use Rattle.dg_volume.specs.Numbers.{save_told}
 use Rattle.dg_volume.specs.Saves.{good_marks, save_reply, saved_by}
 use Rattle.dg_volume.specs.Settles as settles
-use Rattle.dg_volume.specs.Volumes.{FitsArray, IsInPlace, IsWell, Known, Leaves, StandsFor, StandsIn, StandsUnder, cut_of, line_of, live_of, marks_of, reduced_of, shape_of, state_of, table_of}
+use Rattle.dg_volume.specs.Volumes.{FitsArray, IsInPlace, IsWell, Known, LeavesBy, StandsFor, StandsIn, StandsUnder, cut_of, line_of, live_of, marks_of, reduced_of, shape_of, state_of, table_of}
 use Rattle.dg_volume.specs.declared.phases.InPhase as phases
 use Rattle.dg_volume.specs.declared.volumes.Volume.{Volume}
 
@@ -155,7 +156,7 @@ module _ {S R : Type 0} (phase : phases.Ghosts S) (rack : Ghosts R) where
 
   -- ---- what a save leaves
 
-  module _ (a : Volume S R) (store : Store R) (label : Option KeptLabel) (keeps : KeepsArray rack a.store store) where
+  module _ (a : Volume S R) (store : Store R) (label : Option KeptLabel) (keeps : KeepsArrayBy rack IsCallOrExtendBelow a.store store) where
     abbrev after : Volume S R
     after = record a { store = store; label = label }
 
@@ -185,7 +186,7 @@ module _ {S R : Type 0} (phase : phases.Ghosts S) (rack : Ghosts R) where
       settled = λ settled. subst (λ (t : Table). IsInPlace t (phase.kept a.phase) a.homes a.copies) (sym keeps.table) (well.settled settled);
     }
 
-    pub save_leaves : IsWell phase rack a → IsLabeled rack (line_of a) store label → Leaves phase phase rack a after
+    pub save_leaves : IsWell phase rack a → IsLabeled rack (line_of a) store label → LeavesBy phase phase rack IsCallOrExtendBelow a after
     save_leaves well labeled = record {
       well = saved_well well labeled;
       shape = shape;

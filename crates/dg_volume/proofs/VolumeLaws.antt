@@ -2,6 +2,7 @@
 use Rattle.std.proofs.Common.{◌≡◌, ◌∙◌, ◌<◌, ◌≤◌, ◌/◌, ℕ, Bool, true, List, length, refl, sym, ap, subst}
 use Rattle.std.specs.Prelude.{IfSome, Option}
 use Rattle.dg_infer.specs.Meanings as inferences
+use Rattle.dg_io.specs.RackCalls.{RackCall}
 use Rattle.dg_io.specs.Told.{StillTold}
 use Rattle.dg_io.specs.declared.outside.Rack.{Ghosts}
 use Rattle.dg_model.proofs.MemberLaws.{NoneRecovers, good_was, has_lost_at, has_lost_from, lost_stays}
@@ -20,7 +21,7 @@ use Rattle.dg_model.specs.declared.members.MemberState.{MemberState}
 use Rattle.dg_model.specs.declared.members.MemberState.TheVariants.{Out}
 use Rattle.dg_model.specs.declared.replies.Reply.{Reply}
 use Rattle.dg_model.specs.declared.shapes.Shape.{Shape}
-use Rattle.dg_store.specs.Leaves.{CallsBelow}
+use Rattle.dg_store.specs.Leaves.{IsCallBelow, MadeBelow}
 use Rattle.dg_store.specs.ReadLaws.{own_none, rack_none}
 use Rattle.dg_store.specs.Stores.{IsSound, KeepsBlocks}
 use Rattle.dg_store.specs.Views.{ReadsOn}
@@ -30,7 +31,7 @@ use Rattle.dg_volume.proofs.UseLaws.{fits_table, long_on}
 use Rattle.dg_volume.specs.Origins.{Origin, WasHeld}
 use Rattle.dg_volume.specs.Faults.{OutsStay, TellsFaults}
 use Rattle.dg_volume.specs.Seals.{Relabels}
-use Rattle.dg_volume.specs.Volumes.{FitsArray, HasLabel, IsInPlace, IsWell, Known, Leaves, StandsFor, StandsIn, StandsUnder, StepsBy, StepsTo, line_of, marks_by, marks_of, members_of, rack_of, shape_of, state_of, table_of}
+use Rattle.dg_volume.specs.Volumes.{FitsArray, HasLabel, IsInPlace, IsWell, Known, Leaves, LeavesBy, StandsFor, StandsIn, StandsUnder, StepsBy, StepsTo, line_of, marks_by, marks_of, members_of, rack_of, shape_of, state_of, table_of}
 use Rattle.dg_volume.specs.declared.in_use.InUse.{InUse}
 use Rattle.dg_volume.specs.declared.phases.InPhase as phases
 use Rattle.dg_volume.specs.declared.volumes.Volume.{Volume}
@@ -78,8 +79,8 @@ module _ {S R : Type 0} (phase : phases.Ghosts S) (rack : Ghosts R) where
     pub copies : b.copies ≡ a.copies
     pub in_use : b.in_use ≡ a.in_use
 
-  -- what any such call keeps of the array
-  pub record Keeps (a b : Volume S R) : Type 0 where
+  -- what any such call keeps of the array, by which calls it makes of the rack
+  pub record KeepsBy (may : ℕ → RackCall → Type 0) (a b : Volume S R) : Type 0 where
     pub beside : IsBeside a b
     pub labeled : HasLabel rack a
     pub levels : b.levels.fragment ≡ a.levels.fragment
@@ -88,24 +89,27 @@ module _ {S R : Type 0} (phase : phases.Ghosts S) (rack : Ghosts R) where
     pub rise : CountsRise (rack.counts (rack_of a)) (rack.counts (rack_of b))
     pub tells : StillTold (rack.bytes (rack_of a)) (rack.bytes (rack_of b))
     pub told_before : (q : ℕ) → rack.tells (rack_of b) q → rack.tells (rack_of a) q
-    pub own : CallsBelow rack (shape_of a).b (rack_of a) (rack_of b)
+    pub own : MadeBelow rack may (shape_of a).b (rack_of a) (rack_of b)
     pub same_rack : rack.name (rack_of b) ≡ rack.name (rack_of a)
     pub back : NoneRecovers (members_of a) (members_of b)
     pub stands : KeepsBlocks rack a.store b.store
     pub labels : Labels rack a b
     pub faults : TellsFaults rack a.store b.store
 
-  pub shape_kept : (a b : Volume S R) → Keeps a b → shape_of b ≡ shape_of a
+  abbrev pub Keeps : Volume S R → Volume S R → Type 0
+  Keeps a b = KeepsBy IsCallBelow a b
+
+  pub shape_kept : (a b : Volume S R) → {may : ℕ → RackCall → Type 0} → KeepsBy may a b → shape_of b ≡ shape_of a
   shape_kept a b keeps = ap (λ (t : Table). t.shape) keeps.table
 
   -- so are the numbers by which members are as long
-  pub line_kept : (a b : Volume S R) → Keeps a b → line_of b ≡ line_of a
+  pub line_kept : (a b : Volume S R) → {may : ℕ → RackCall → Type 0} → KeepsBy may a b → line_of b ≡ line_of a
   line_kept a b keeps = line_same a b (ap (λ (u : InUse). u.long) keeps.beside.in_use) (shape_kept a b keeps)
 
   marks_kept : (a b : Volume S R) → IsBeside a b → marks_of phase b ≡ marks_of phase a
   marks_kept a b beside = λ i. marks_by (phase.kept (beside.phase_is i)) ((beside.pending i).items)
 
-  in_place_on : (a b : Volume S R) → Keeps a b → IsInPlace (table_of a) (phase.kept a.phase) a.homes a.copies
+  in_place_on : (a b : Volume S R) → {may : ℕ → RackCall → Type 0} → KeepsBy may a b → IsInPlace (table_of a) (phase.kept a.phase) a.homes a.copies
       → IsInPlace (table_of b) (phase.kept b.phase) b.homes b.copies
   in_place_on a b keeps placed =
       let by_table = subst (λ (t : Table). IsInPlace t (phase.kept a.phase) a.homes a.copies) (sym keeps.table) placed in
@@ -113,7 +117,7 @@ module _ {S R : Type 0} (phase : phases.Ghosts S) (rack : Ghosts R) where
       let by_homes = subst (λ (x : List Home). IsInPlace (table_of b) (phase.kept b.phase) x a.copies) (sym keeps.beside.homes) by_phase in
       subst (λ (x : List Home). IsInPlace (table_of b) (phase.kept b.phase) b.homes x) (sym keeps.beside.copies) by_homes
 
-  well_on : (a b : Volume S R) → IsWell phase rack a → Keeps a b → IsWell phase rack b
+  well_on : (a b : Volume S R) → IsWell phase rack a → {may : ℕ → RackCall → Type 0} → KeepsBy may a b → IsWell phase rack b
   well_on a b well keeps =
       let shape = shape_kept a b keeps in
       let fits = subst (λ (x : Shape). IfSome (phase.kept a.phase) (FitsArray x)) (sym shape) well.inferred in
@@ -139,7 +143,7 @@ module _ {S R : Type 0} (phase : phases.Ghosts S) (rack : Ghosts R) where
         settled = λ settled. in_place_on a b keeps (well.settled (ap phase.phase (sym keeps.beside.phase_is) ∙ settled));
       }
 
-  pub leaves : (a b : Volume S R) → IsWell phase rack a → Keeps a b → Leaves phase phase rack a b
+  pub leaves : (a b : Volume S R) → IsWell phase rack a → {may : ℕ → RackCall → Type 0} → KeepsBy may a b → LeavesBy phase phase rack may a b
   leaves a b well keeps = record { well = well_on a b well keeps; shape = shape_kept a b keeps; boundaries = ap (λ (u : InUse). u.boundaries) keeps.beside.in_use; live = ap (λ (u : InUse). u.live.items) keeps.beside.in_use; line = line_kept a b keeps; rise = keeps.rise; tells = keeps.tells; told_before = keeps.told_before; own = keeps.own; same_rack = keeps.same_rack }
 
   -- no call was made
@@ -181,20 +185,20 @@ module _ {S R : Type 0} (phase : phases.Ghosts S) (rack : Ghosts R) where
   steps_from a b event reply h = steps_by (λ recent. recent) a b event reply h
 
   -- what is told in the end was told before
-  pub told_before : {P : Type 0} → (a b : Volume S R) → Keeps a b → Known P rack b → Known P rack a
+  pub told_before : {P : Type 0} → (a b : Volume S R) → {may : ℕ → RackCall → Type 0} → KeepsBy may a b → Known P rack b → Known P rack a
   told_before a b keeps known = (λ q below. keeps.told_before q (known.0 q (subst (λ (s : Shape). q / 2 < s.b) (sym (shape_kept a b keeps)) below)), known.1)
 
-  pub holds_on : (a b : Volume S R) (V : List (List ℕ)) → Keeps a b → StandsFor phase rack a V → StandsFor phase rack b V
+  pub holds_on : (a b : Volume S R) (V : List (List ℕ)) → {may : ℕ → RackCall → Type 0} → KeepsBy may a b → StandsFor phase rack a V → StandsFor phase rack b V
   holds_on a b V keeps holds = record {
     array = keeps.stands V holds.array;
     inferred = subst (λ (p : S). IfSome (phase.kept p) (λ kept. inferences.StandsFor kept V)) (sym keeps.beside.phase_is) holds.inferred;
   }
 
   -- the state that it is in then, with this rest and these blocks
-  abbrev pub kept_state : (a b : Volume S R) → Keeps a b → State → List (List ℕ) → State
+  abbrev pub kept_state : (a b : Volume S R) → {may : ℕ → RackCall → Type 0} → KeepsBy may a b → State → List (List ℕ) → State
   kept_state a b keeps rest V = state_of phase rack b (on_label a b keeps.labels.opens rest) V
 
-  pub still_in : {P : Type 0} → (a b : Volume S R) (rest : State) (V : List (List ℕ)) → StandsUnder rack a rest.label → (keeps : Keeps a b)
+  pub still_in : {P : Type 0} → (a b : Volume S R) (rest : State) (V : List (List ℕ)) → StandsUnder rack a rest.label → {may : ℕ → RackCall → Type 0} (keeps : KeepsBy may a b)
       → (Known P rack a → StandsFor phase rack a V) → StandsIn phase rack P b (kept_state a b keeps rest V)
   still_in a b rest V label keeps holds = record {
     is = refl;
@@ -208,7 +212,7 @@ module _ {S R : Type 0} (phase : phases.Ghosts S) (rack : Ghosts R) where
   same_in a rest V label holds = record { is = refl; label = label; holds = holds }
 
   -- no call was made on its rack: it is in the state with the same label
-  pub quiet_in : {P : Type 0} → (a b : Volume S R) (rest : State) (V : List (List ℕ)) → StandsUnder rack a rest.label → Keeps a b → rack_of b ≡ rack_of a → b.label ≡ a.label
+  pub quiet_in : {P : Type 0} → (a b : Volume S R) (rest : State) (V : List (List ℕ)) → StandsUnder rack a rest.label → {may : ℕ → RackCall → Type 0} → KeepsBy may a b → rack_of b ≡ rack_of a → b.label ≡ a.label
       → ((q : ℕ) → members_of a q ≡ Out → members_of b q ≡ Out) → ((q : ℕ) → is_filling (members_of b q) ≡ true → is_filling (members_of a q) ≡ true)
       → (Known P rack a → StandsFor phase rack a V) → StandsIn phase rack P b (state_of phase rack b rest V)
   quiet_in a b rest V label keeps same label_is outs fills holds = record {
@@ -221,7 +225,7 @@ module _ {S R : Type 0} (phase : phases.Ghosts S) (rack : Ghosts R) where
   }
 
   -- and it stays in it where its members fall
-  pub stays : (a b : Volume S R) (rest : State) (V : List (List ℕ)) → StandsUnder rack a rest.label → (keeps : Keeps a b)
+  pub stays : (a b : Volume S R) (rest : State) (V : List (List ℕ)) → StandsUnder rack a rest.label → {may : ℕ → RackCall → Type 0} (keeps : KeepsBy may a b)
       → CountsRise (rack.counts (rack_of a)) (rack.counts (rack_of b))
       → MembersFall (rack.counts (rack_of a)).faults (rack.counts (rack_of b)).faults (members_of a) (members_of b) → OutsStay rack a.store b.store
       → Stays (state_of phase rack a rest V) (kept_state a b keeps rest V)

@@ -17,11 +17,12 @@ use Rattle.dg_model.specs.declared.replies.Reply.{Reply}
 use Rattle.dg_model.specs.declared.replies.Reply.TheVariants.{Lost as LostReply, NotSaved as NotSavedReply, Saved as SavedReply}
 use Rattle.dg_regroup.specs.Extras.{extra_bytes}
 use Rattle.dg_regroup.specs.declared.extras.Extra.{Extra}
+use Rattle.dg_store.specs.Leaves.{IsCallOrExtendBelow}
 use Rattle.dg_store.specs.Stores.{IsSound, IsWhole, KeepsBlocks}
 use Rattle.dg_store.specs.Stores as stores
 use Rattle.dg_store.specs.declared.store.Store.{Store}
 use Rattle.dg_volume.specs.Origins.{Origin, WasHeld}
-use Rattle.dg_volume.specs.Volumes.{Leaves, StandsIn, cut_of, live_of, members_of, rack_of, shape_of}
+use Rattle.dg_volume.specs.Volumes.{LeavesBy, StandsIn, cut_of, live_of, members_of, rack_of, shape_of}
 use Rattle.dg_volume.specs.declared.commits.CheckpointAnswer.{CheckpointAnswer}
 use Rattle.dg_volume.specs.declared.commits.CheckpointAnswer.TheVariants.{Lost, NotSaved, Saved}
 use Rattle.dg_volume.specs.declared.phases.InPhase as phases
@@ -59,11 +60,12 @@ pub record FailsMarked {R : Type 0} (rack : Ghosts R) (fell : ℕ) (old new : St
   pub blocks : KeepsBlocks rack old new
 
 -- What a commit leaves of an array, with the rack's answer: the bytes of the good members and these extra ones are kept, and a member that fell in
--- it is out.
-pub record CommitsArray {R : Type 0} (rack : Ghosts R) (room : R → Option ℕ) (extra : List ℕ) (answer : CommitAnswer) (old new : Store R) : Type 0 where
+-- it is out. `goes` is what a commit may leave of the rack beside its members.
+pub record CommitsArray {R : Type 0} (rack : Ghosts R) (room : R → Option ℕ) (goes : R → R → Type 0) (extra : List ℕ) (answer : CommitAnswer) (old new : Store R) : Type 0 where
   pub keep : ℕ
   pub good : AreGoodBits (stores.members_of old) keep
   pub leaves : LeavesCommit rack room keep extra answer (stores.rack_of old) (stores.rack_of new)
+  pub beside : goes (stores.rack_of old) (stores.rack_of new)
   pub sound : IsSound rack new
   pub table : stores.table_of new ≡ stores.table_of old
   pub members : AreFailed (fell_in keep answer) (stores.members_of old) (stores.members_of new)
@@ -81,8 +83,8 @@ left_on members last = record last { keepers = λ q. last.keepers q && is_good (
 
 -- What a commit leaves of a volume, with the rack's answer. It is in the state in which it was, but for members that fell. Where that state was left by
 -- a save, and some member is good, the save and the commit are one save.
-pub record Commits {S R : Type 0} (phase : phases.Ghosts S) (rack : Ghosts R) (room : R → Option ℕ) (old : Volume S R) (answer : CommitAnswer) (new : Volume S R) : Type 0 where
-  pub array : CommitsArray rack room (extra_bytes (extra_of old)) answer old.store new.store
+pub record Commits {S R : Type 0} (phase : phases.Ghosts S) (rack : Ghosts R) (room : R → Option ℕ) (goes : R → R → Type 0) (old : Volume S R) (answer : CommitAnswer) (new : Volume S R) : Type 0 where
+  pub array : CommitsArray rack room goes (extra_bytes (extra_of old)) answer old.store new.store
   pub states : (origin : Origin R) (state : State) → StandsIn phase rack (WasHeld rack origin) old state
       → StandsIn phase rack (WasHeld rack origin) new (committed rack new state (label_after false (members_of old) (members_of new) state.label))
   pub left : (origin : Origin R) (state : State) → StandsIn phase rack (WasHeld rack origin) old state
@@ -105,14 +107,14 @@ pub record CannotSave {S R : Type 0} (room : R → Option ℕ) (volume : Volume 
   pub reduced : length (live_of volume) < volume.in_use.boundaries
 
 -- What was kept behind a save: the bytes of the members that were good then, and what stood beside the state before it.
-pub record KeepsSaved {S R : Type 0} (phase : phases.Ghosts S) (rack : Ghosts R) (room : R → Option ℕ) (old new : Volume S R) : Type 0 where
+pub record KeepsSaved {S R : Type 0} (phase : phases.Ghosts S) (rack : Ghosts R) (room : R → Option ℕ) (goes : R → R → Type 0) (old new : Volume S R) : Type 0 where
   pub mid : Volume S R
   pub answer : CommitAnswer
-  pub saved : Leaves phase phase rack old mid
-  pub commits : CommitsArray rack room (extra_bytes (extra_of old)) answer mid.store new.store
+  pub saved : LeavesBy phase phase rack IsCallOrExtendBelow old mid
+  pub commits : CommitsArray rack room goes (extra_bytes (extra_of old)) answer mid.store new.store
 
 -- By the answer. Where the save itself left no good member, nothing was kept anew.
-abbrev pub KeepsBy : {S R : Type 0} → phases.Ghosts S → Ghosts R → (R → Option ℕ) → Volume S R → Volume S R → CheckpointAnswer → Type 0
-KeepsBy phase rack room old new (Saved sequence) = KeepsSaved phase rack room old new × HasGood new.store
-KeepsBy phase rack room old new (Lost s) = Leaves phase phase rack old new ⊎ (KeepsSaved phase rack room old new × HasNoGood new.store)
-KeepsBy phase rack room old new NotSaved = new ≡ old
+abbrev pub KeepsBy : {S R : Type 0} → phases.Ghosts S → Ghosts R → (R → Option ℕ) → (R → R → Type 0) → Volume S R → Volume S R → CheckpointAnswer → Type 0
+KeepsBy phase rack room goes old new (Saved sequence) = KeepsSaved phase rack room goes old new × HasGood new.store
+KeepsBy phase rack room goes old new (Lost s) = LeavesBy phase phase rack IsCallOrExtendBelow old new ⊎ (KeepsSaved phase rack room goes old new × HasNoGood new.store)
+KeepsBy phase rack room goes old new NotSaved = new ≡ old

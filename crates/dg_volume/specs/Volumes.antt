@@ -3,6 +3,7 @@ use Rattle.std.specs.Prelude.{◌≡◌, ◌≢◌, ◌+◌, ◌*◌, ◌≤◌,
 use Rattle.dg_infer.specs.Meanings.{KeptInference}
 use Rattle.dg_infer.specs.Meanings as inferences
 use Rattle.dg_infer.specs.Wants.{IsWantBy}
+use Rattle.dg_io.specs.RackCalls.{RackCall}
 use Rattle.dg_io.specs.declared.outside.Rack.{Ghosts}
 use Rattle.dg_io.specs.Told.{StillTold}
 use Rattle.dg_label.specs.Labels.{IsLabeled, StandsLabeled}
@@ -22,7 +23,7 @@ use Rattle.dg_model.specs.declared.phases.Phase.TheVariants.{Loose as LoosePhase
 use Rattle.dg_model.specs.declared.replies.Reply.{Reply}
 use Rattle.dg_model.specs.declared.shapes.Shape.{Shape}
 use Rattle.dg_model.specs.declared.wants.Want.{Want}
-use Rattle.dg_store.specs.Leaves.{CallsBelow}
+use Rattle.dg_store.specs.Leaves.{IsCallBelow, IsCallOrBlankBelow, MadeBelow}
 use Rattle.dg_store.specs.Stores.{IsSound, TellsAll}
 use Rattle.dg_store.specs.Stores as stores
 use Rattle.dg_volume.specs.Origins.{Always, Origin, WasHeld}
@@ -193,8 +194,8 @@ pub record IsWell {S R : Type 0} (phase : phases.Ghosts S) (rack : Ghosts R) (vo
   pub settled : phase.phase volume.phase ≡ SettledPhase → IsInPlace (table_of volume) (phase.kept volume.phase) volume.homes volume.copies
 
 -- What any call leaves: a volume of the same array with which all is well, of the same first line and the same boundaries in use, whose members are
--- as long, over the same rack, of which no count fell, what that tells it told before, and calls were made on members of the array alone.
-pub record Leaves {S T R : Type 0} (from : phases.Ghosts S) (to : phases.Ghosts T) (rack : Ghosts R) (old : Volume S R) (new : Volume T R) : Type 0 where
+-- as long, over the same rack, of which no count fell, what that tells it told before, and such calls were made on members of the array alone.
+pub record LeavesBy {S T R : Type 0} (from : phases.Ghosts S) (to : phases.Ghosts T) (rack : Ghosts R) (may : ℕ → RackCall → Type 0) (old : Volume S R) (new : Volume T R) : Type 0 where
   pub well : IsWell to rack new
   pub shape : shape_of new ≡ shape_of old
   pub boundaries : new.in_use.boundaries ≡ old.in_use.boundaries
@@ -203,8 +204,12 @@ pub record Leaves {S T R : Type 0} (from : phases.Ghosts S) (to : phases.Ghosts 
   pub rise : CountsRise (rack.counts (rack_of old)) (rack.counts (rack_of new))
   pub tells : StillTold (rack.bytes (rack_of old)) (rack.bytes (rack_of new))
   pub told_before : (q : ℕ) → rack.tells (rack_of new) q → rack.tells (rack_of old) q
-  pub own : CallsBelow rack (shape_of old).b (rack_of old) (rack_of new)
+  pub own : MadeBelow rack may (shape_of old).b (rack_of old) (rack_of new)
   pub same_rack : rack.name (rack_of new) ≡ rack.name (rack_of old)
+
+-- what any call leaves that neither makes a member anew nor extends one
+abbrev pub Leaves : {S T R : Type 0} → phases.Ghosts S → phases.Ghosts T → Ghosts R → Volume S R → Volume T R → Type 0
+Leaves from to rack old new = LeavesBy from to rack IsCallBelow old new
 
 -- It is in each state that the other was in: it is the same volume, and only what is known of its phase may be another.
 pub record IsSame {S T R : Type 0} (from : phases.Ghosts S) (to : phases.Ghosts T) (rack : Ghosts R) (old : Volume S R) (new : Volume T R) : Type 0 where
@@ -236,7 +241,7 @@ pub record IsBlankVolume {R : Type 0} (rack : Ghosts R) (shape : Shape) (before 
   pub shape_is : shape_of volume ≡ shape
   pub tells : StillTold (rack.bytes before) (rack.bytes (rack_of volume))
   pub told_before : (q : ℕ) → rack.tells (rack_of volume) q → rack.tells before q
-  pub own : CallsBelow rack shape.b before (rack_of volume)
+  pub own : MadeBelow rack IsCallOrBlankBelow shape.b before (rack_of volume)
   pub same_rack : rack.name (rack_of volume) ≡ rack.name before
   pub state : State
   pub blank : IsBlank shape (rack.counts before) state

@@ -6,13 +6,14 @@ ghost use Rattle.dg_model.specs.Members.{IsStruck, is_good as is_good_state};
 ghost use Rattle.dg_model.specs.declared.events.Event.{Event};
 ghost use Rattle.dg_regroup.specs.Extras.{IsExtra};
 ghost use Rattle.dg_regroup.specs.Marks.{IsMarkedToo};
+ghost use Rattle.dg_store.specs.Leaves.{IsCallOrExtendBelow};
 ghost use Rattle.dg_store.specs.Stores.{IsSound, IsWhole, KeepsBlocks, members_of, table_of};
 ghost use Rattle.dg_store.specs.Stores as stores;
 ghost use Rattle.dg_volume.specs.Commits.{AreGoodBits, CannotSave, Commits, CommitsArray, FailsMarked, KeepsBy, checkpoint_reply, extra_of};
 ghost use Rattle.dg_volume.specs.Copies.{StepsHot};
 ghost use Rattle.dg_volume.specs.Regroups.{GoesOn};
 ghost use Rattle.dg_volume.specs.Settles.{KeepsArray};
-ghost use Rattle.dg_volume.specs.Volumes.{IsWell, Leaves, given_of, rack_of, shape_of};
+ghost use Rattle.dg_volume.specs.Volumes.{IsWell, LeavesBy, given_of, rack_of, shape_of};
 
 use crate::left_lists::has_good;
 use crate::phases::InPhase;
@@ -119,7 +120,7 @@ fn fallen(keep: u32, answer: CommitAnswer) -> u32
 fn commit_good<R: Checkpoint>(store: &mut Store<R>, extra: &[u8]) -> CommitAnswer
     requires sound { IsSound R.Rack store.old }
     requires fits { IfSome (R.room_of (stores.rack_of store.old)) (λ room. length extra.now ≤ room) }
-    ensures { CommitsArray R.Rack R.room_of extra.now result store.old store.new }
+    ensures { CommitsArray R.Rack R.room_of R.commits extra.now result store.old store.new }
 {
     let keep = good_members(store);
     let answer = store.commit(keep, extra);
@@ -190,7 +191,7 @@ impl<S: InPhase, R: Checkpoint> Volume<S, R> {
         requires well { IsWell S.InPhase R.Rack self.old }
         requires room { IfSome (R.room_of (rack_of self.old)) (λ room. 30 + 4 * (shape_of self.old).n ≤ room) }
         ensures on { GoesOn S.InPhase R.Rack self.old self.new }
-        ensures commits { IfOk result (λ answer. Commits S.InPhase R.Rack R.room_of self.old answer self.new) }
+        ensures commits { IfOk result (λ answer. Commits S.InPhase R.Rack R.room_of R.commits self.old answer self.new) }
         ensures err { OnErr result (self.new ≡ self.old) }
         ensures given { given_of self.new ≡ given_of self.old }
     {
@@ -218,8 +219,8 @@ impl<S: InPhase, R: Checkpoint> Volume<S, R> {
         ensures on { GoesOn S.InPhase R.Rack self.old self.new }
         ensures steps { IfOk result (λ answer. StepsHot S.InPhase S.InPhase R.Rack hot.now self.old Event.Save (checkpoint_reply answer) self.new) }
         ensures not_saved { IfOk result (λ answer. (answer ≡ CheckpointAnswer.NotSaved) ↔ CannotSave R.room_of self.old) }
-        ensures kept { IfOk result (KeepsBy S.InPhase R.Rack R.room_of self.old self.new) }
-        ensures err { OnErr result (Leaves S.InPhase S.InPhase R.Rack self.old self.new × KeepsArray R.Rack self.old self.new) }
+        ensures kept { IfOk result (KeepsBy S.InPhase R.Rack R.room_of R.commits self.old self.new) }
+        ensures err { OnErr result (LeavesBy S.InPhase S.InPhase R.Rack IsCallOrExtendBelow self.old self.new × KeepsArray R.Rack self.old self.new) }
         ensures given { given_of self.new ≡ given_of self.old }
     {
         if self.cannot_save() {

@@ -9,7 +9,8 @@ ghost use Rattle.dg_rebuild.specs.Answers.{HasNoFilling};
 ghost use Rattle.dg_store.specs.Stores.{IsSound, members_of, table_of};
 ghost use Rattle.dg_store.specs.Stores as stores;
 ghost use Rattle.dg_volume.specs.Refills.{AreDeadMarks, AreReapMarks, HasFilling, IsDeadMark, OpensRefill, SparesFiles, rebuild_reply, rebuilt_at, replace_reply, told_of};
-ghost use Rattle.dg_volume.specs.Volumes.{FitsArray, IsWell, Leaves, given_of, StepsSized, StepsTo};
+ghost use Rattle.dg_store.specs.Leaves.{IsCallOrBlankBelow};
+ghost use Rattle.dg_volume.specs.Volumes.{FitsArray, IsWell, Leaves, LeavesBy, given_of, StepsSized, StepsTo};
 
 use crate::phases::InPhase;
 use crate::seals::open_where;
@@ -212,7 +213,7 @@ impl<S: InPhase, R: Rack> Volume<S, R> {
     /// Makes a member anew that is out, given by its boundary's number in the first line and its side. It is refilled then.
     pub fn replace(&mut self, boundary: u32, side: u32) -> ReplaceAnswer
         requires well { IsWell S.InPhase R.Rack self.old }
-        ensures leaves { Leaves S.InPhase S.InPhase R.Rack self.old self.new }
+        ensures leaves { LeavesBy S.InPhase S.InPhase R.Rack IsCallOrBlankBelow self.old self.new }
         ensures steps { StepsTo S.InPhase S.InPhase R.Rack self.old (Event.Replace boundary side) (replace_reply boundary result) self.new }
         ensures given { given_of self.new ≡ given_of self.old }
     {

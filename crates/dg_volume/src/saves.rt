@@ -5,11 +5,12 @@ ghost use Rattle.dg_model.specs.Members.{is_good};
 ghost use Rattle.dg_model.specs.Saves.{CanBeSaved, HasForm, body_of, room_of};
 ghost use Rattle.dg_model.specs.declared.events.Event.{Event};
 ghost use Rattle.dg_save.specs.States.{state_of as saved_of};
+ghost use Rattle.dg_store.specs.Leaves.{IsCallOrExtendBelow};
 ghost use Rattle.dg_store.specs.Stores.{IsSound, members_of as stored_members, shape_of as stored_shape};
 ghost use Rattle.dg_volume.specs.Copies.{StepsHot};
 ghost use Rattle.dg_volume.specs.Saves.{good_marks, save_reply, saved_by};
 ghost use Rattle.dg_volume.specs.Settles.{KeepsArray};
-ghost use Rattle.dg_volume.specs.Volumes.{IsWell, Leaves, given_of, marks_of, shape_of};
+ghost use Rattle.dg_volume.specs.Volumes.{IsWell, LeavesBy, given_of, marks_of, shape_of};
 
 use crate::phases::InPhase;
 use crate::volumes::Volume;
@@ -103,7 +104,7 @@ impl<S: InPhase, R: Rack> Volume<S, R> {
     /// is answered as want of memory, and nothing is done.
     pub fn save(&mut self, alloc: Global, hot: &Hot) -> Result<SaveAnswer, NoMemory>
         requires well { IsWell S.InPhase R.Rack self.old }
-        ensures leaves { Leaves S.InPhase S.InPhase R.Rack self.old self.new }
+        ensures leaves { LeavesBy S.InPhase S.InPhase R.Rack IsCallOrExtendBelow self.old self.new }
         ensures steps { IfOk result (λ answer. StepsHot S.InPhase S.InPhase R.Rack hot.now self.old Event.Save (save_reply answer) self.new) }
         ensures err { OnErr result (KeepsArray R.Rack self.old self.new) }
         ensures array { KeepsArray R.Rack self.old self.new }

@@ -1,6 +1,6 @@
 use Rattle.std.proofs.Common.{◌≡◌, ◌*◌, ℕ, List, ap, arith, subst}
 use Rattle.dg_io.specs.Told.{Extended, KeepsFront}
-use Rattle.dg_label.specs.Passes.{Passes, Touches}
+use Rattle.dg_label.specs.Passes.{PassesBy, TouchesBy}
 use Rattle.dg_label.specs.Saves.{short_members}
 use Rattle.dg_label.proofs.FallenLaws.{fallen_more, fallen_none}
 use Rattle.dg_label.proofs.LabelLaws.{whole_extended}
@@ -8,7 +8,7 @@ use Rattle.dg_label.proofs.PassLaws.{passes_more, passes_none}
 use Rattle.dg_label.proofs.SaveLaws.{extended_fronts, short_more, uncalled_more, uncalled_none}
 use Rattle.dg_model.specs.Saves.{member_length}
 use Rattle.dg_model.specs.declared.shapes.Shape.{Shape}
-use Rattle.dg_store.specs.Leaves.{CallsAtMost}
+use Rattle.dg_store.specs.Leaves.{CallsAtMost, IsCallOrExtendBelow}
 use Rattle.dg_store.specs.Stores.{shape_of}
 use Rattle.dg_label.proofs.passes.lengthen.Goals as goal
 
@@ -21,7 +21,7 @@ loop-member-preserved g c =
     let d = c.lengthen_one.new.store in
     let change : ℕ → List ℕ → List ℕ → Type 0 = λ (q : ℕ). Extended (member_length 2 c.args.line.now) in
     let fails : ℕ → List ℕ → List ℕ → Type 0 = λ (q : ℕ). KeepsFront in
-    let touches : Touches g.R.Rack n (change n) b d = c.lengthen_one.ensures.touches in
+    let touches : TouchesBy g.R.Rack IsCallOrExtendBelow n (change n) b d = c.lengthen_one.ensures.touches in
     record {
       passes = passes_more g.R.Rack change n a b d old.passes touches;
       fallen = fallen_more g.R.Rack fails change n a b d old.passes touches old.fallen c.lengthen_one.ensures.fallen;
@@ -43,7 +43,7 @@ returns-clause-whole g c =
     let b = ap (λ (sh : Shape). sh.b) c.shape.ensures in
     let end : c.loop-member.member ≡ 2 * (shape_of a).b = omega (arith, b) in
     whole_extended g.R.Rack a c.loop-member.store c.requires.sound c.args.line.now c.args.label.now c.requires.labeled
-    (subst (λ (n : ℕ). Passes g.R.Rack n (λ (q : ℕ). Extended (member_length 2 c.args.line.now)) a c.loop-member.store) end c.loop-member.invariant.passes)
+    (subst (λ (n : ℕ). PassesBy g.R.Rack IsCallOrExtendBelow n (λ (q : ℕ). Extended (member_length 2 c.args.line.now)) a c.loop-member.store) end c.loop-member.invariant.passes)
 
 pub returns-clause-fronts : goal.returns-clause-fronts
 returns-clause-fronts g c =
@@ -51,7 +51,7 @@ returns-clause-fronts g c =
     let b = ap (λ (sh : Shape). sh.b) c.shape.ensures in
     let end : c.loop-member.member ≡ 2 * (shape_of a).b = omega (arith, b) in
     extended_fronts g.R.Rack a c.loop-member.store (member_length 2 c.args.line.now) c.requires.sound
-    (subst (λ (n : ℕ). Passes g.R.Rack n (λ (q : ℕ). Extended (member_length 2 c.args.line.now)) a c.loop-member.store) end c.loop-member.invariant.passes)
+    (subst (λ (n : ℕ). PassesBy g.R.Rack IsCallOrExtendBelow n (λ (q : ℕ). Extended (member_length 2 c.args.line.now)) a c.loop-member.store) end c.loop-member.invariant.passes)
     c.loop-member.invariant.fallen
 
 pub returns-clause-most : goal.returns-clause-most

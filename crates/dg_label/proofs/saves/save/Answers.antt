@@ -3,7 +3,7 @@ use Rattle.dg_label.specs.LineLaws.{line_on}
 use Rattle.dg_label.specs.Lines.{IsLineOf}
 use Rattle.dg_label.specs.declared.labels.KeptLabel.{KeptLabel}
 use Rattle.dg_label.proofs.LabelLaws.{all_lost, fresh_on, fresh_opened, have_room, next_first, none_labeled, save_stands}
-use Rattle.dg_label.proofs.PassLaws.{keeps_both, keeps_none, told_same}
+use Rattle.dg_label.proofs.PassLaws.{keeps_both, keeps_none, keeps_or_extend, told_same}
 use Rattle.dg_label.proofs.SaveLaws.{save_members, save_most, save_untouched}
 use Rattle.dg_model.specs.Saves.{room_of}
 use Rattle.dg_model.specs.declared.shapes.Shape.{Shape}
@@ -20,15 +20,16 @@ write_bodies-requires-clause-room g c =
 
 pub returns-then-not-write_labels-clause-array : goal.returns-then-not-write_labels-clause-array
 returns-then-not-write_labels-clause-array g c =
-    keeps_both g.R.Rack _ _ _ c.open_seal.ensures.array
-    (keeps_both g.R.Rack _ _ _ c.lengthen.ensures.array (keeps_both g.R.Rack _ _ _ c.write_bodies.ensures.passes.array c.write_labels.ensures.passes.array))
+    keeps_both g.R.Rack _ _ _ (keeps_or_extend g.R.Rack _ _ c.open_seal.ensures.array)
+    (keeps_both g.R.Rack _ _ _ c.lengthen.ensures.array
+    (keeps_or_extend g.R.Rack _ _ (keeps_both g.R.Rack _ _ _ c.write_bodies.ensures.passes.array c.write_labels.ensures.passes.array)))
 
 pub returns-then-not-write_labels-clause-labeled : goal.returns-then-not-write_labels-clause-labeled
 returns-then-not-write_labels-clause-labeled g c =
     let keeps =
-    keeps_both g.R.Rack c.args.store.now c.open_seal.new.store c.write_labels.new.store c.open_seal.ensures.array
+    keeps_both g.R.Rack c.args.store.now c.open_seal.new.store c.write_labels.new.store (keeps_or_extend g.R.Rack _ _ c.open_seal.ensures.array)
     (keeps_both g.R.Rack _ c.lengthen.new.store _ c.lengthen.ensures.array
-    (keeps_both g.R.Rack _ c.write_bodies.new.store _ c.write_bodies.ensures.passes.array c.write_labels.ensures.passes.array)) in
+    (keeps_or_extend g.R.Rack _ _ (keeps_both g.R.Rack _ c.write_bodies.new.store _ c.write_bodies.ensures.passes.array c.write_labels.ensures.passes.array))) in
     none_labeled g.R.Rack c.args.line.now c.args.store.now c.write_labels.new.store c.args.label.now c.requires.labeled keeps (c.write_labels.ensures.none c.if-not-write_labels.true)
 
 pub returns-then-not-write_labels-clause-answer : goal.returns-then-not-write_labels-clause-answer
@@ -38,8 +39,9 @@ returns-then-not-write_labels-clause-answer g c =
 
 pub returns-clause-array : goal.returns-clause-array
 returns-clause-array g c =
-    keeps_both g.R.Rack _ _ _ c.open_seal.ensures.array
-    (keeps_both g.R.Rack _ _ _ c.lengthen.ensures.array (keeps_both g.R.Rack _ _ _ c.write_bodies.ensures.passes.array c.write_labels.ensures.passes.array))
+    keeps_both g.R.Rack _ _ _ (keeps_or_extend g.R.Rack _ _ c.open_seal.ensures.array)
+    (keeps_both g.R.Rack _ _ _ c.lengthen.ensures.array
+    (keeps_or_extend g.R.Rack _ _ (keeps_both g.R.Rack _ _ _ c.write_bodies.ensures.passes.array c.write_labels.ensures.passes.array)))
 
 pub returns-clause-labeled : goal.returns-clause-labeled
 returns-clause-labeled g c =

@@ -1,8 +1,7 @@
 use Rattle.std.proofs.Common.{◌≡◌, ◌∙◌, ℕ, List, ap, refl, subst, sym}
 use Rattle.dg_model.specs.Blocks.{padded}
 use Rattle.dg_model.specs.declared.events.Event.{Event}
-use Rattle.std.specs.Prelude.{IfOk}
-use Rattle.dg_model.specs.declared.events.Event.TheVariants.{Audit, Diffuse, Fail, Home, Rebuild, Replace, Settle, Tend, Who, Write}
+use Rattle.dg_model.specs.declared.events.Event.TheVariants.{Audit, Diffuse, Fail, Home, Rebuild, Settle, Tend, Who, Write}
 use Rattle.dg_model.specs.declared.replies.Reply.{Reply}
 use Rattle.dg_run.proofs.ArraySteps.{disk_pairs, disk_steps, steps_hot, steps_of, steps_sized}
 use Rattle.dg_run.proofs.Runs.{goes_none}
@@ -64,14 +63,6 @@ returns-in-Home-clause-steps g c =
     (subst (λ (r : Reply). volumes.StepsTo any_phase any_phase g.R.Rack a.volume (Home c.as_slice-in-Home.result.now) r b.volume) (sym c.home_reply.ensures) c.home.ensures.steps) in
     subst (λ (e : Event). StepsTo g.R.Rack a e c.home_reply.result b) (sym c.in-Home.is) (steps_of g.R.Rack a b (Home c.in-Home.path) c.home_reply.result tt refl step)
 
-pub returns-in-Replace-clause-steps : goal.returns-in-Replace-clause-steps
-returns-in-Replace-clause-steps g c =
-    let a = c.args.array.now in
-    let b = record a { volume = c.replace.new.self } in
-    let step = subst (λ (r : Reply). volumes.StepsTo any_phase any_phase g.R.Rack a.volume (Replace c.in-Replace.s c.in-Replace.j) r b.volume) (sym c.replace_reply.ensures) c.replace.ensures.steps in
-    subst (λ (e : Event). StepsTo g.R.Rack a e c.replace_reply.result b) (sym c.in-Replace.is)
-    (steps_of g.R.Rack a b (Replace c.in-Replace.s c.in-Replace.j) c.replace_reply.result tt refl step)
-
 pub returns-in_ok-rebuild-in-Rebuild-clause-steps : goal.returns-in_ok-rebuild-in-Rebuild-clause-steps
 returns-in_ok-rebuild-in-Rebuild-clause-steps g c =
     let a = c.args.array.now in
@@ -115,21 +106,11 @@ returns-in-Who-clause-of_pairs g c = subst (λ (e : Event). IsOfPairs c.args.arr
 pub returns-in-Home-clause-of_pairs : goal.returns-in-Home-clause-of_pairs
 returns-in-Home-clause-of_pairs g c = subst (λ (e : Event). IsOfPairs c.args.array.now e c.home_reply.result) (sym c.in-Home.is) tt
 
-pub returns-in-Replace-clause-of_pairs : goal.returns-in-Replace-clause-of_pairs
-returns-in-Replace-clause-of_pairs g c = subst (λ (e : Event). IsOfPairs c.args.array.now e c.replace_reply.result) (sym c.in-Replace.is) tt
-
 pub returns-in_ok-rebuild-in-Rebuild-clause-of_pairs : goal.returns-in_ok-rebuild-in-Rebuild-clause-of_pairs
 returns-in_ok-rebuild-in-Rebuild-clause-of_pairs g c = subst (λ (e : Event). IsOfPairs c.args.array.now e c.rebuild_reply.result) (sym c.in-Rebuild.is) tt
 
 pub returns-in_ok-diffuse-in-Diffuse-clause-of_pairs : goal.returns-in_ok-diffuse-in-Diffuse-clause-of_pairs
 returns-in_ok-diffuse-in-Diffuse-clause-of_pairs g c = subst (λ (e : Event). IsOfPairs c.args.array.now e c.diffuse_reply.result) (sym c.in-Diffuse.is) tt
-
-pub returns-in-Save-clause-steps : goal.returns-in-Save-clause-steps
-returns-in-Save-clause-steps g c =
-    subst (λ (e : Event). IfOk c.save.result (λ reply. StepsTo g.R.Rack c.args.array.now e reply c.save.new.array)) (sym c.in-Save.is) c.save.ensures.steps
-
-pub returns-in-Save-clause-of_pairs : goal.returns-in-Save-clause-of_pairs
-returns-in-Save-clause-of_pairs g c = subst (λ (e : Event). IfOk c.save.result (λ reply. IsOfPairs c.args.array.now e reply)) (sym c.in-Save.is) c.save.ensures.of_pairs
 
 pub returns-in-DropDisk-clause-of_pairs : goal.returns-in-DropDisk-clause-of_pairs
 returns-in-DropDisk-clause-of_pairs g c = disk_pairs g.R.Rack c.args.array.now c.args.event.now c.in-DropDisk.is

@@ -4,6 +4,7 @@ use Rattle.dg_model.specs.declared.replies.Reply.{Reply}
 use Rattle.dg_run.proofs.ArraySteps.{not_saved_steps, saved_pairs, steps_hot}
 use Rattle.dg_run.proofs.Runs.{goes_none}
 use Rattle.dg_volume.specs.Copies.{StepsHot}
+use Rattle.dg_volume.specs.HeldLaws.{leaves_or_extend}
 use Rattle.dg_volume.specs.Volumes.{any_phase}
 use Rattle.dg_run.proofs.serve.save.Goals as goal
 
@@ -18,7 +19,8 @@ pub returns-clause-of_pairs : goal.returns-clause-of_pairs
 returns-clause-of_pairs g c = saved_pairs g.R.Rack c.args.array.now (λ less. let is = c.is_reduced.ensures.1 less in search (rules, is)) c.save_reply.result
 
 pub returns-then-is_reduced-clause-goes : goal.returns-then-is_reduced-clause-goes
-returns-then-is_reduced-clause-goes g c = goes_none g.R.Rack c.args.array.now c.requires.sound
+returns-then-is_reduced-clause-goes g c =
+    leaves_or_extend any_phase any_phase g.R.Rack c.args.array.now.volume c.args.array.now.volume (goes_none g.R.Rack c.args.array.now c.requires.sound)
 
 pub returns-then-is_reduced-clause-steps : goal.returns-then-is_reduced-clause-steps
 returns-then-is_reduced-clause-steps g c = not_saved_steps g.R.Rack c.args.array.now (c.is_reduced.ensures.0 (search rules))

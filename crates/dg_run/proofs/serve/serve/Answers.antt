@@ -106,3 +106,17 @@ returns-in-Regroup-clause-answered g c =
 
 pub returns-in-Regroup-clause-part : goal.returns-in-Regroup-clause-part
 returns-in-Regroup-clause-part g c = λ is. subst (λ (e : Event). EventCut g.R.Rack e (g.K.Sink.taken c.args.sink.now) (g.K.Sink.taken c.serve_regroup.new.sink) c.args.array.now c.serve_regroup.new.array) (sym c.in-Regroup.is) (c.serve_regroup.ensures.part is)
+
+pub returns-in-Save-clause-answered : goal.returns-in-Save-clause-answered
+returns-in-Save-clause-answered g c =
+    subst (λ (e : Event). OnOk c.serve_save.result (EventAnswered g.R.Rack e (g.K.Sink.taken c.args.sink.now) (g.K.Sink.taken c.serve_save.new.sink) c.args.array.now c.serve_save.new.array)) (sym c.in-Save.is) c.serve_save.ensures.answered
+
+pub returns-in-Save-clause-part : goal.returns-in-Save-clause-part
+returns-in-Save-clause-part g c = λ is. subst (λ (e : Event). EventCut g.R.Rack e (g.K.Sink.taken c.args.sink.now) (g.K.Sink.taken c.serve_save.new.sink) c.args.array.now c.serve_save.new.array) (sym c.in-Save.is) (c.serve_save.ensures.part is)
+
+pub returns-in-Replace-clause-answered : goal.returns-in-Replace-clause-answered
+returns-in-Replace-clause-answered g c =
+    subst (λ (e : Event). OnOk c.serve_replace.result (EventAnswered g.R.Rack e (g.K.Sink.taken c.args.sink.now) (g.K.Sink.taken c.serve_replace.new.sink) c.args.array.now c.serve_replace.new.array)) (sym c.in-Replace.is) c.serve_replace.ensures.answered
+
+pub returns-in-Replace-clause-part : goal.returns-in-Replace-clause-part
+returns-in-Replace-clause-part g c = λ is. subst (λ (e : Event). EventCut g.R.Rack e (g.K.Sink.taken c.args.sink.now) (g.K.Sink.taken c.serve_replace.new.sink) c.args.array.now c.serve_replace.new.array) (sym c.in-Replace.is) (c.serve_replace.ensures.part is)

@@ -6,9 +6,9 @@ use Rattle.dg_model.specs.declared.members.MemberState.TheVariants.{Good}
 use Rattle.dg_pair.specs.declared.boundaries.Boundary.{Boundary}
 use Rattle.dg_pair.specs.Boundaries.{MembersStand, members_of}
 use Rattle.dg_store.specs.Answers.{AreBlank, AreZeroed, blanks_of}
-use Rattle.dg_store.specs.ReadLaws.{own_both, own_none, own_wider, rack_both}
+use Rattle.dg_store.specs.ReadLaws.{below_none, own_both, own_wider, rack_both}
 use Rattle.dg_store.specs.Leaves.{FailedAreOut}
-use Rattle.dg_store.proofs.Calls.{own_of, stays_of}
+use Rattle.dg_store.proofs.Calls.{own_blanked, stays_of}
 use Rattle.dg_store.specs.Rows.{RowStands, members_in}
 use Rattle.dg_store.proofs.Changed.{blank_long, pushed_fell, stand_changed, zeroed_changed}
 use Rattle.dg_store.proofs.Rows.{begun_is, push_changed, push_stands, push_begins}
@@ -43,7 +43,7 @@ loop-number-preserved g c =
       zeros = subst (λ (row : List Boundary). AreZeroed size (members_in row) now) (sym pushed) zeros;
       stays = rack_both g.R.Rack _ _ _ inv.stays (stays_of g.R.Rack g.met.R.Rack.after leaves);
       made = subst (λ (n : ℕ). g.R.Rack.made c.args.rack.now (blanks_of n) c.new-boundary.new.rack) next (g.met.R.Rack.made_both _ _ _ _ _ inv.made made.made);
-      own = own_both g.R.Rack (c.loop-number.number + 1) _ _ _ (own_wider g.R.Rack _ _ _ _ (omega arith) inv.own) (own_of g.R.Rack refl (omega arith) leaves);
+      own = own_both g.R.Rack (c.loop-number.number + 1) _ _ _ (own_wider g.R.Rack _ _ _ _ (omega arith) inv.own) (own_blanked g.R.Rack refl (omega arith) leaves);
       fell = subst (λ (row : List Boundary). FailedAreOut f h (members_in row)) (sym pushed) (pushed_fell c.loop-number.number _ _ _ _ changed f _ h inv.fell leaves.fell inv.own.other_faults (λ q off. leaves.other_faults q off));
       most = omega (arith, inv.most, made.most);
     }
@@ -79,7 +79,7 @@ loop-number-init g c = record {
   zeros = search rules;
   stays = search rules;
   made = g.met.R.Rack.made_none _;
-  own = own_none g.R.Rack 0 _;
+  own = below_none g.R.Rack 0 _;
   fell = λ q rose. absurd (omega (arith, rose));
   most = search rules;
 }
@@ -91,4 +91,4 @@ pub returns-then-is_err-clause-own : goal.returns-then-is_err-clause-own
 returns-then-is_err-clause-own g c =
     let end = c.loop-number.auto.number-end in
     let inside = c.loop-number-test.true in
-    own_both g.R.Rack c.args.shape.now.b _ _ _ (own_wider g.R.Rack _ _ _ _ (omega arith) c.loop-number.invariant.own) (own_of g.R.Rack refl (omega arith) c.new-boundary.ensures.leaves)
+    own_both g.R.Rack c.args.shape.now.b _ _ _ (own_wider g.R.Rack _ _ _ _ (omega arith) c.loop-number.invariant.own) (own_blanked g.R.Rack refl (omega arith) c.new-boundary.ensures.leaves)

@@ -26,6 +26,6 @@ standing_is_sound-requires-clause-stand g c =
 pub returns : goal.returns
 returns g c =
     let mid = c.commit-answer.new.self in
-    commits_array g.R.Rack g.R.Checkpoint.room_of c.good_members-keep.result c.args.extra.now c.commit-answer.result c.args.store.now mid c.fail_marked.new.store
-    c.good_members-keep.ensures c.commit-answer.ensures.leaves
+    commits_array g.R.Rack g.R.Checkpoint.room_of g.R.Checkpoint.commits c.good_members-keep.result c.args.extra.now c.commit-answer.result c.args.store.now mid c.fail_marked.new.store
+    c.good_members-keep.ensures c.commit-answer.ensures.leaves c.commit-answer.ensures.commits
     (subst (λ (fell : ℕ). FailsMarked g.R.Rack fell mid c.fail_marked.new.store) c.fallen.ensures c.fail_marked.ensures) c.standing_is_sound.ensures

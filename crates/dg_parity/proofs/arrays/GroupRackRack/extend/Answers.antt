@@ -1,6 +1,6 @@
 use Rattle.std.proofs.Common.{◌≡◌, [], ◌∷◌, refl, subst, ◌⊎◌, ◌<◌, false}
 use Rattle.std.specs.Prelude.{OnErr, OnOk}
-use Rattle.dg_io.specs.RackCalls.RackCall.{calls}
+use Rattle.dg_io.specs.RackCalls.RackCall.{extends}
 use Rattle.dg_io.specs.RackWords.{Leaves}
 use Rattle.dg_io.specs.Told.{Extended, KeepsFront, Told}
 use Rattle.dg_model.specs.Causes.{RoseByOne}
@@ -26,7 +26,7 @@ returns-clause-leaves g c =
     let r = c.extend_at-result.result in
     let old : Grouped g.row.R.Denot = record { rack = c.self.inside.rack; width = c.self.inside.width; groups = c.self.inside.groups.items; tally = c.self.inside.tally } in
     let new : Grouped g.row.R.Denot = record { rack = c.extend_at-result.new.rack; width = c.self.inside.width; groups = c.extend_at-result.new.groups.items; tally = c.note_write.new.self } in
-    subst (λ (s : Grouped g.row.R.Denot). Leaves (grouped_words g.R.Rack) m r s new) c.self.view_is (leaves_grouped g.R.Rack (calls m) m refl r old new c.extend_at-result.ensures.steps (tally_of m r c.is_err.result c.self.inside.tally c.note_write.new.self c.is_err.ensures.value c.note_write.ensures.notes))
+    subst (λ (s : Grouped g.row.R.Denot). Leaves (grouped_words g.R.Rack) m r s new) c.self.view_is (leaves_grouped g.R.Rack (extends m) m refl r old new c.extend_at-result.ensures.steps (tally_of m r c.is_err.result c.self.inside.tally c.note_write.new.self c.is_err.ensures.value c.note_write.ensures.notes))
 
 pub returns-clause-made : goal.returns-clause-made
 returns-clause-made g c =
@@ -34,8 +34,8 @@ returns-clause-made g c =
     let r = c.extend_at-result.result in
     let old : Grouped g.row.R.Denot = record { rack = c.self.inside.rack; width = c.self.inside.width; groups = c.self.inside.groups.items; tally = c.self.inside.tally } in
     let new : Grouped g.row.R.Denot = record { rack = c.extend_at-result.new.rack; width = c.self.inside.width; groups = c.extend_at-result.new.groups.items; tally = c.note_write.new.self } in
-    subst (λ (s : Grouped g.row.R.Denot). GroupedMade g.R.Rack s (calls m ∷ []) new) c.self.view_is
-    (made_grouped g.R.Rack (calls m) m refl r old new c.extend_at-result.ensures.steps (tally_of m r c.is_err.result c.self.inside.tally c.note_write.new.self c.is_err.ensures.value c.note_write.ensures.notes) refl
+    subst (λ (s : Grouped g.row.R.Denot). GroupedMade g.R.Rack s (extends m ∷ []) new) c.self.view_is
+    (made_grouped g.R.Rack (extends m) m refl r old new c.extend_at-result.ensures.steps (tally_of m r c.is_err.result c.self.inside.tally c.note_write.new.self c.is_err.ensures.value c.note_write.ensures.notes) refl
     (λ s j no was. c.extend_at-result.ensures.stays s j was))
 
 pub returns-clause-writes : goal.returns-clause-writes

@@ -1,6 +1,6 @@
 use Rattle.std.proofs.Common.{◌≡◌, [], ◌∷◌, true, sym, subst, ◌⊎◌, inl, refl, ap}
 use Rattle.std.specs.Prelude.{IfSome, OnErr, OnOk, Some}
-use Rattle.dg_io.specs.RackCalls.RackCall.{calls}
+use Rattle.dg_io.specs.RackCalls.RackCall.{extends}
 use Rattle.dg_io.specs.RackWords.{Leaves}
 use Rattle.dg_io.specs.Told.{Extended, FitsIn, KeepsFront, Told}
 use Rattle.dg_model.specs.Causes.{RoseByOne}
@@ -25,7 +25,7 @@ pub returns-in-Plain-clause-err : goal.returns-in-Plain-clause-err
 returns-in-Plain-clause-err g c = subst (λ (s : ParityRack g.row.R.Denot). OnErr c.extend.result (Told (KeepsFront) (parity_bytes g.R.Rack s c.args.member) (parity_bytes g.R.Rack (Plain c.extend.new.self) c.args.member))) (sym c.in-Plain.is) c.extend.ensures.err
 
 pub returns-in-Plain-clause-made : goal.returns-in-Plain-clause-made
-returns-in-Plain-clause-made g c = subst (λ (s : ParityRack g.row.R.Denot). ParityMade g.R.Rack s (calls c.args.member ∷ []) (Plain c.extend.new.self)) (sym c.in-Plain.is) (plain_made g.R.Rack c.in-Plain.rack c.extend.new.self (calls c.args.member ∷ []) c.extend.ensures.made)
+returns-in-Plain-clause-made g c = subst (λ (s : ParityRack g.row.R.Denot). ParityMade g.R.Rack s (extends c.args.member ∷ []) (Plain c.extend.new.self)) (sym c.in-Plain.is) (plain_made g.R.Rack c.in-Plain.rack c.extend.new.self (extends c.args.member ∷ []) c.extend.ensures.made)
 
 pub returns-in-Plain-clause-leaves : goal.returns-in-Plain-clause-leaves
 returns-in-Plain-clause-leaves g c = subst (λ (s : ParityRack g.row.R.Denot). Leaves (parity_words g.R.Rack) c.args.member c.extend.result s (Plain c.extend.new.self)) (sym c.in-Plain.is) (plain_leaves g.R.Rack c.args.member c.extend.result c.in-Plain.rack c.extend.new.self c.extend.ensures.leaves)
@@ -46,7 +46,7 @@ pub returns-in-OfGroups-clause-err : goal.returns-in-OfGroups-clause-err
 returns-in-OfGroups-clause-err g c = subst (λ (s : ParityRack g.row.R.Denot). OnErr c.extend-in-OfGroups.result (Told (KeepsFront) (parity_bytes g.R.Rack s c.args.member) (parity_bytes g.R.Rack (OfGroups c.extend-in-OfGroups.new.self) c.args.member))) (sym c.in-OfGroups.is) c.extend-in-OfGroups.ensures.err
 
 pub returns-in-OfGroups-clause-made : goal.returns-in-OfGroups-clause-made
-returns-in-OfGroups-clause-made g c = subst (λ (s : ParityRack g.row.R.Denot). ParityMade g.R.Rack s (calls c.args.member ∷ []) (OfGroups c.extend-in-OfGroups.new.self)) (sym c.in-OfGroups.is) (grouped_made g.R.Rack c.in-OfGroups.grouped c.extend-in-OfGroups.new.self (calls c.args.member ∷ []) c.extend-in-OfGroups.ensures.made)
+returns-in-OfGroups-clause-made g c = subst (λ (s : ParityRack g.row.R.Denot). ParityMade g.R.Rack s (extends c.args.member ∷ []) (OfGroups c.extend-in-OfGroups.new.self)) (sym c.in-OfGroups.is) (grouped_made g.R.Rack c.in-OfGroups.grouped c.extend-in-OfGroups.new.self (extends c.args.member ∷ []) c.extend-in-OfGroups.ensures.made)
 
 pub returns-in-OfGroups-clause-leaves : goal.returns-in-OfGroups-clause-leaves
 returns-in-OfGroups-clause-leaves g c = subst (λ (s : ParityRack g.row.R.Denot). Leaves (parity_words g.R.Rack) c.args.member c.extend-in-OfGroups.result s (OfGroups c.extend-in-OfGroups.new.self)) (sym c.in-OfGroups.is) (grouped_leaves g.R.Rack c.args.member c.extend-in-OfGroups.result c.in-OfGroups.grouped c.extend-in-OfGroups.new.self c.extend-in-OfGroups.ensures.leaves)

@@ -1,7 +1,9 @@
-use Rattle.std.proofs.Common.{length}
+use Rattle.std.proofs.Common.{arith, length, refl}
+use Rattle.dg_io.specs.RackCalls.RackCall.{calls}
 use Rattle.dg_io.specs.Told.{OldOrNew, Patched, Torn}
 use Rattle.dg_regroup.specs.FrontRacks.{is_front}
 use Rattle.dg_regroup.proofs.FrontBytes.{Covers, err_more, ok_more, old_or_new_shown, patched_shown, told_shown, torn_shown}
+use Rattle.dg_regroup.proofs.FrontCalls.{passed_as}
 use Rattle.dg_regroup.proofs.front_racks.FrontRackRack.write.Goals as goal
 
 pub returns-clause-ok : goal.returns-clause-ok
@@ -30,3 +32,7 @@ returns-clause-whole g c =
     (old_or_new_shown it.length c.args.place c.args.buf.now)
     (g.R.Rack.bytes it.rack c.args.member) (g.R.Rack.bytes c.write.new.self c.args.member) c.requires.range (whole steady header))
     c.write.ensures.whole
+
+pub returns-clause-made : goal.returns-clause-made
+returns-clause-made g c =
+    passed_as g.R.Rack (calls c.args.member) (calls c.args.member) refl c.args.self.now _ refl refl (λ q. omega arith) (λ q far. refl) (omega arith) (λ is. refl) (λ is. refl) c.write.ensures.made

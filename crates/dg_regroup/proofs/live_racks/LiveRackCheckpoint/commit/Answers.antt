@@ -22,4 +22,5 @@ returns g c =
     record {
       leaves = commit_through g.R.Rack g.R.Checkpoint.room_of c.args.keep c.marks_below-below.result c.args.extra.now c.args.self.now _
           (record { live = refl; absent = refl; calls = refl; writes = refl }) marks c.requires.stand c.commit-answer.result c.answer_here.result answer c.commit-answer.ensures.leaves;
+      commits = record { below = c.commit-answer.ensures.commits; live = refl; absent = refl; calls = refl; writes = refl };
     }

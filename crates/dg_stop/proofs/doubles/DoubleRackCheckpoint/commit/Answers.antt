@@ -3,7 +3,7 @@ use Rattle.std.specs.Prelude.{IfSome, length}
 use Rattle.dg_io.specs.Commits.{LeavesCommit}
 use Rattle.dg_io.specs.declared.checkpoints.CommitAnswer.{CommitAnswer}
 use Rattle.dg_stop.proofs.CommitDouble.{commit_answer}
-use Rattle.dg_stop.specs.DoubleCommits.{answer_in, double_rack, double_room}
+use Rattle.dg_stop.specs.DoubleCommits.{RisesBehind, answer_in, double_rack, double_room}
 use Rattle.dg_stop.specs.DoubleLaws.{both_of}
 use Rattle.dg_stop.specs.Doubles.{Double, double_stands, stands_in}
 use Rattle.dg_stop.proofs.DoubleCounts.{commit_called}
@@ -35,6 +35,13 @@ returns-clause-leaves g c =
     (commit_answer g.R.Rack c.args.keep c.args.extra.now c.flags_of-served.result c.commit_members-made.new.serving c.commit_members-made.new.tried old new c.flags_of-served.ensures
     c.commit_members-made.ensures.tried c.commit_members-made.ensures.leaves c.note_fallen.ensures c.commit_members-made.result c.marks_of_fallen.result c.marks_of_fallen.ensures
     c.commit_members-made.ensures.answer c.commit_members-made.ensures.kept))
+
+pub returns-clause-commits : goal.returns-clause-commits
+returns-clause-commits g c =
+    let old : Double g.row.R.Denot = record { rack = c.self.inside.rack; memory = c.self.inside.memory; tally = c.self.inside.tally } in
+    let new : Double g.row.R.Denot = record { rack = c.commit_members-made.new.rack; memory = c.commit_members-made.new.memory; tally = c.note_fallen.new.self } in
+    let rises : RisesBehind g.R.Rack old new = record { rise = c.commit_members-made.ensures.leaves.rise } in
+    subst (λ (s : Double g.row.R.Denot). RisesBehind g.R.Rack s new) c.self.view_is rises
 
 pub returns-clause-calls : goal.returns-clause-calls
 returns-clause-calls g c =

@@ -29,7 +29,7 @@ returns-clause-made g c =
     let old : Double g.row.R.Denot = record { rack = c.self.inside.rack; memory = c.self.inside.memory; tally = c.self.inside.tally } in
     let new : Double g.row.R.Denot = record { rack = c.self.inside.rack; memory = c.self.inside.memory; tally = c.note.new.self } in
     subst (λ (s : Double g.row.R.Denot). DoubleMade g.R.Rack s (looks m ∷ []) new) c.self.view_is
-    (made_double g.R.Rack (looks m) m refl r old new (idle_steps g.R.Rack (looks m) m r c.self.inside.memory c.self.inside.rack c.self.invariant) (tally_of m r c.is_err.result c.self.inside.tally c.note.new.self c.is_err.ensures.value c.note.ensures.notes) (λ no. (idle_keeps g.R.Rack c.self.inside.memory c.self.inside.rack)))
+    (made_double g.R.Rack (looks m) m refl r old new (idle_steps g.R.Rack (looks m) m r c.self.inside.memory c.self.inside.rack c.self.invariant) (tally_of m r c.is_err.result c.self.inside.tally c.note.new.self c.is_err.ensures.value c.note.ensures.notes) (λ no. (idle_keeps g.R.Rack c.self.inside.memory c.self.inside.rack)) (λ plain. absurd (plain refl)))
 
 pub returns-clause-writes : goal.returns-clause-writes
 returns-clause-writes g c =

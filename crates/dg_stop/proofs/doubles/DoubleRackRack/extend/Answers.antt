@@ -1,6 +1,6 @@
 use Rattle.std.proofs.Common.{◌≡◌, [], ◌∷◌, refl, sym, subst}
 use Rattle.std.specs.Prelude.{OnErr, OnOk, IfSome}
-use Rattle.dg_io.specs.RackCalls.RackCall.{calls}
+use Rattle.dg_io.specs.RackCalls.RackCall.{extends}
 use Rattle.dg_io.specs.RackWords.{Leaves}
 use Rattle.dg_io.specs.Told.{Extended, FitsIn, KeepsFront, Told}
 use Rattle.dg_model.specs.Causes.{RoseByOne}
@@ -25,7 +25,7 @@ returns-clause-leaves g c =
     let old : Double g.row.R.Denot = record { rack = c.self.inside.rack; memory = c.self.inside.memory; tally = c.self.inside.tally } in
     let new : Double g.row.R.Denot = record { rack = c.self.inside.rack; memory = c.extend_member-result.new.memory; tally = c.note_write.new.self } in
     subst (λ (s : Double g.row.R.Denot). Leaves (double_words g.R.Rack) m r s new) c.self.view_is
-    (leaves_double g.R.Rack (calls m) m refl r old new (extend_steps g.R.Rack m c.self.inside.memory c.self.inside.rack c.self.invariant c.extend_member-result.new.memory r c.extend_member-result.ensures.ok c.extend_member-result.ensures.err) (tally_of m r c.is_err.result c.self.inside.tally c.note_write.new.self c.is_err.ensures.value c.note_write.ensures.notes))
+    (leaves_double g.R.Rack (extends m) m refl r old new (extend_steps g.R.Rack m c.self.inside.memory c.self.inside.rack c.self.invariant c.extend_member-result.new.memory r c.extend_member-result.ensures.ok c.extend_member-result.ensures.err) (tally_of m r c.is_err.result c.self.inside.tally c.note_write.new.self c.is_err.ensures.value c.note_write.ensures.notes))
 
 pub returns-clause-made : goal.returns-clause-made
 returns-clause-made g c =
@@ -33,8 +33,8 @@ returns-clause-made g c =
     let r = c.extend_member-result.result in
     let old : Double g.row.R.Denot = record { rack = c.self.inside.rack; memory = c.self.inside.memory; tally = c.self.inside.tally } in
     let new : Double g.row.R.Denot = record { rack = c.self.inside.rack; memory = c.extend_member-result.new.memory; tally = c.note_write.new.self } in
-    subst (λ (s : Double g.row.R.Denot). DoubleMade g.R.Rack s (calls m ∷ []) new) c.self.view_is
-    (made_double g.R.Rack (calls m) m refl r old new (extend_steps g.R.Rack m c.self.inside.memory c.self.inside.rack c.self.invariant c.extend_member-result.new.memory r c.extend_member-result.ensures.ok c.extend_member-result.ensures.err) (tally_of m r c.is_err.result c.self.inside.tally c.note_write.new.self c.is_err.ensures.value c.note_write.ensures.notes) (λ no. (extend_keeps g.R.Rack m c.self.inside.memory c.self.inside.rack c.self.invariant c.extend_member-result.new.memory r c.extend_member-result.ensures.ok c.extend_member-result.ensures.err)))
+    subst (λ (s : Double g.row.R.Denot). DoubleMade g.R.Rack s (extends m ∷ []) new) c.self.view_is
+    (made_double g.R.Rack (extends m) m refl r old new (extend_steps g.R.Rack m c.self.inside.memory c.self.inside.rack c.self.invariant c.extend_member-result.new.memory r c.extend_member-result.ensures.ok c.extend_member-result.ensures.err) (tally_of m r c.is_err.result c.self.inside.tally c.note_write.new.self c.is_err.ensures.value c.note_write.ensures.notes) (λ no. (extend_keeps g.R.Rack m c.self.inside.memory c.self.inside.rack c.self.invariant c.extend_member-result.new.memory r c.extend_member-result.ensures.ok c.extend_member-result.ensures.err)) (λ plain. absurd (plain refl)))
 
 pub returns-clause-writes : goal.returns-clause-writes
 returns-clause-writes g c =

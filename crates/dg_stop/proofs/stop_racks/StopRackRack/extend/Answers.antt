@@ -1,6 +1,6 @@
 use Rattle.std.proofs.Common.{◌≡◌, [], ◌∷◌, true, sym, subst, arith, ap}
 use Rattle.std.specs.Prelude.{IfSome, OnErr, OnOk}
-use Rattle.dg_io.specs.RackCalls.RackCall.{calls}
+use Rattle.dg_io.specs.RackCalls.RackCall.{extends}
 use Rattle.dg_io.specs.RackWords.{Leaves}
 use Rattle.dg_io.specs.Told.{Extended, FitsIn, KeepsFront, Told}
 use Rattle.dg_model.specs.Causes.{RoseByOne}
@@ -25,7 +25,7 @@ pub returns-in-Plain-clause-err : goal.returns-in-Plain-clause-err
 returns-in-Plain-clause-err g c = subst (λ (s : StopRack g.row.R.Denot). OnErr c.extend.result (Told (KeepsFront) (stop_bytes g.R.Rack s c.args.member) (stop_bytes g.R.Rack (Plain c.extend.new.self) c.args.member))) (sym c.in-Plain.is) c.extend.ensures.err
 
 pub returns-in-Plain-clause-made : goal.returns-in-Plain-clause-made
-returns-in-Plain-clause-made g c = subst (λ (s : StopRack g.row.R.Denot). StopMade g.R.Rack s (calls c.args.member ∷ []) (Plain c.extend.new.self)) (sym c.in-Plain.is) (plain_made g.R.Rack c.in-Plain.rack c.extend.new.self (calls c.args.member ∷ []) c.extend.ensures.made)
+returns-in-Plain-clause-made g c = subst (λ (s : StopRack g.row.R.Denot). StopMade g.R.Rack s (extends c.args.member ∷ []) (Plain c.extend.new.self)) (sym c.in-Plain.is) (plain_made g.R.Rack c.in-Plain.rack c.extend.new.self (extends c.args.member ∷ []) c.extend.ensures.made)
 
 pub returns-in-Plain-clause-leaves : goal.returns-in-Plain-clause-leaves
 returns-in-Plain-clause-leaves g c = subst (λ (s : StopRack g.row.R.Denot). Leaves (stop_words g.R.Rack) c.args.member c.extend.result s (Plain c.extend.new.self)) (sym c.in-Plain.is) (plain_leaves g.R.Rack c.args.member c.extend.result c.in-Plain.rack c.extend.new.self c.extend.ensures.leaves)
@@ -46,7 +46,7 @@ pub returns-in-Doubled-clause-err : goal.returns-in-Doubled-clause-err
 returns-in-Doubled-clause-err g c = subst (λ (s : StopRack g.row.R.Denot). OnErr c.extend-in-Doubled.result (Told (KeepsFront) (stop_bytes g.R.Rack s c.args.member) (stop_bytes g.R.Rack (Doubled c.extend-in-Doubled.new.self) c.args.member))) (sym c.in-Doubled.is) c.extend-in-Doubled.ensures.err
 
 pub returns-in-Doubled-clause-made : goal.returns-in-Doubled-clause-made
-returns-in-Doubled-clause-made g c = subst (λ (s : StopRack g.row.R.Denot). StopMade g.R.Rack s (calls c.args.member ∷ []) (Doubled c.extend-in-Doubled.new.self)) (sym c.in-Doubled.is) (doubled_made g.R.Rack c.in-Doubled.double c.extend-in-Doubled.new.self (calls c.args.member ∷ []) c.extend-in-Doubled.ensures.made)
+returns-in-Doubled-clause-made g c = subst (λ (s : StopRack g.row.R.Denot). StopMade g.R.Rack s (extends c.args.member ∷ []) (Doubled c.extend-in-Doubled.new.self)) (sym c.in-Doubled.is) (doubled_made g.R.Rack c.in-Doubled.double c.extend-in-Doubled.new.self (extends c.args.member ∷ []) c.extend-in-Doubled.ensures.made)
 
 pub returns-in-Doubled-clause-leaves : goal.returns-in-Doubled-clause-leaves
 returns-in-Doubled-clause-leaves g c = subst (λ (s : StopRack g.row.R.Denot). Leaves (stop_words g.R.Rack) c.args.member c.extend-in-Doubled.result s (Doubled c.extend-in-Doubled.new.self)) (sym c.in-Doubled.is) (doubled_leaves g.R.Rack c.args.member c.extend-in-Doubled.result c.in-Doubled.double c.extend-in-Doubled.new.self c.extend-in-Doubled.ensures.leaves)

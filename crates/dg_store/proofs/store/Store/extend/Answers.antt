@@ -2,7 +2,7 @@ use Rattle.std.proofs.Common.{◌≡◌, inl, inr, ◌+◌, ◌*◌, ◌/◌, re
 use Rattle.std.proofs.lemmas.Bool.{cases_eq}
 use Rattle.dg_store.proofs.Blocks.{stands_below}
 use Rattle.dg_store.proofs.Changed.{fell_changed}
-use Rattle.dg_store.proofs.Calls.{kept_at, row_falls, was_in, row_is, own_of, stays_of, called_of, idle_of}
+use Rattle.dg_store.proofs.Calls.{extended_of, idle_extended, kept_at, own_extended, row_falls, was_in, row_is, stays_of}
 use Rattle.dg_store.proofs.Refills.{extended_is_long}
 use Rattle.dg_store.proofs.Parts.{part_of}
 use Rattle.dg_store.proofs.Sound.{row_of, sound_of}
@@ -54,17 +54,17 @@ returns-clause-sound g c =
 pub returns-clause-stays : goal.returns-clause-stays
 returns-clause-stays g c =
     let part = part_of c.requires.sound c.requires.boundary c.index_mut.ensures.value in
-    record { shape = refl; stays = stays_of g.R.Rack g.met.R.Rack.after c.extend.ensures.leaves; own = own_of g.R.Rack part.pair.number_is c.requires.boundary c.extend.ensures.leaves }
+    record { shape = refl; stays = stays_of g.R.Rack g.met.R.Rack.after c.extend.ensures.leaves; own = own_extended g.R.Rack part.pair.number_is c.requires.boundary c.extend.ensures.leaves }
 
 pub returns-clause-called : goal.returns-clause-called
 returns-clause-called g c =
     let part = part_of c.requires.sound c.requires.boundary c.index_mut.ensures.value in
-    called_of g.R.Rack part.pair.own (part.changed c.extend.new.self).was c.extend.ensures.made
+    extended_of g.R.Rack part.pair.own (part.changed c.extend.new.self).was c.extend.ensures.made
 
 pub returns-clause-idle : goal.returns-clause-idle
 returns-clause-idle g c =
     let part = part_of c.requires.sound c.requires.boundary c.index_mut.ensures.value in
-    idle_of g.R.Rack g.met.R.Rack.after part.pair.own (part.changed c.extend.new.self).was c.extend.ensures.made
+    idle_extended g.R.Rack g.met.R.Rack.after part.pair.own (part.changed c.extend.new.self).was c.extend.ensures.made
 
 pub returns-clause-faulty : goal.returns-clause-faulty
 returns-clause-faulty g c =

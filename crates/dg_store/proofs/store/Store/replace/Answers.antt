@@ -1,7 +1,7 @@
 use Rattle.std.proofs.Common.{◌≡◌, ◌+◌, ◌*◌, ◌/◌, refl, sym, ◌∙◌, ap, arith}
 use Rattle.dg_store.proofs.Blocks.{stands_kept}
 use Rattle.dg_store.proofs.Changed.{fell_changed}
-use Rattle.dg_store.proofs.Calls.{row_is, row_kept, own_of, stays_of}
+use Rattle.dg_store.proofs.Calls.{row_is, row_kept, own_blanked, stays_of}
 use Rattle.dg_store.proofs.Refills.{replaced_changed, replaced_long}
 use Rattle.dg_store.proofs.Parts.{part_of}
 use Rattle.dg_store.proofs.Rows.{lost_at}
@@ -47,7 +47,7 @@ returns-clause-sound g c =
 pub returns-clause-stays : goal.returns-clause-stays
 returns-clause-stays g c =
     let part = part_of c.requires.sound c.requires.boundary c.index_mut.ensures.value in
-    record { shape = refl; stays = stays_of g.R.Rack g.met.R.Rack.after c.replace.ensures.leaves; own = own_of g.R.Rack part.pair.number_is c.requires.boundary c.replace.ensures.leaves }
+    record { shape = refl; stays = stays_of g.R.Rack g.met.R.Rack.after c.replace.ensures.leaves; own = own_blanked g.R.Rack part.pair.number_is c.requires.boundary c.replace.ensures.leaves }
 
 pub returns-clause-faulty : goal.returns-clause-faulty
 returns-clause-faulty g c =

@@ -26,13 +26,13 @@ returns-then-has_good-clause-on g c =
     let m = c.save.new.self in
     let store = c.commit_good.new.store in
     goes_behind g.S.InPhase g.R.Rack c.args.self.now m (record m { store = store }) c.save.ensures.leaves
-    (commit_goes g.S.InPhase g.R.Rack g.R.Checkpoint.room_of c.deref.result.now c.commit_good.result m store c.commit_good.ensures c.save.ensures.leaves.well)
+    (commit_goes g.S.InPhase g.R.Rack g.R.Checkpoint.room_of g.R.Checkpoint.commits c.deref.result.now c.commit_good.result m store c.commit_good.ensures c.save.ensures.leaves.well)
 
 pub returns-then-has_good-clause-steps : goal.returns-then-has_good-clause-steps
 returns-then-has_good-clause-steps g c =
     let a = c.args.self.now in
     let m = c.save.new.self in
-    steps_kept g.S.InPhase g.R.Rack g.R.Checkpoint.room_of c.deref.result.now c.commit_good.result c.args.hot.now c.in-Saved.sequence a m c.commit_good.new.store
+    steps_kept g.S.InPhase g.R.Rack g.R.Checkpoint.room_of g.R.Checkpoint.commits c.deref.result.now c.commit_good.result c.args.hot.now c.in-Saved.sequence a m c.commit_good.new.store
     c.save.ensures.leaves.well c.commit_good.ensures
     (subst (λ (r : SaveAnswer). StepsHot g.S.InPhase g.S.InPhase g.R.Rack c.args.hot.now a Save (save_reply r) m) c.in-Saved.is c.in_ok-sequence.ensures.steps)
     (c.has_good.ensures.some c.if-has_good.true)
@@ -46,14 +46,14 @@ returns-then-has_good-clause-kept g c =
         answer = c.commit_good.result;
         saved = c.save.ensures.leaves;
         commits =
-            subst (λ (bytes : List ℕ). CommitsArray g.R.Rack g.R.Checkpoint.room_of bytes c.commit_good.result m.store c.commit_good.new.store) says c.commit_good.ensures;
+            subst (λ (bytes : List ℕ). CommitsArray g.R.Rack g.R.Checkpoint.room_of g.R.Checkpoint.commits bytes c.commit_good.result m.store c.commit_good.new.store) says c.commit_good.ensures;
       },
       c.has_good.ensures.some c.if-has_good.true,
     )
 
 pub returns-clause-on : goal.returns-clause-on
 returns-clause-on g c =
-    goes_lost g.S.InPhase g.R.Rack g.R.Checkpoint.room_of c.deref.result.now c.commit_good.result c.args.self.now c.save.new.self c.commit_good.new.store c.requires.well
+    goes_lost g.S.InPhase g.R.Rack g.R.Checkpoint.room_of g.R.Checkpoint.commits c.deref.result.now c.commit_good.result c.args.self.now c.save.new.self c.commit_good.new.store c.requires.well
     c.save.ensures.leaves c.commit_good.ensures (c.has_good.ensures.none c.if-has_good.false)
 
 pub returns-clause-steps : goal.returns-clause-steps
@@ -62,7 +62,7 @@ returns-clause-steps g c =
     let m = c.save.new.self in
     let store = c.commit_good.new.store in
     subst (λ (s : ℕ). StepsHot g.S.InPhase g.S.InPhase g.R.Rack c.args.hot.now a Save (Lost s) (record m { store = store; label = a.label })) (sym c.number.ensures)
-    (steps_lost g.S.InPhase g.R.Rack g.R.Checkpoint.room_of c.deref.result.now c.commit_good.result a m store c.requires.well c.save.ensures.leaves c.commit_good.ensures
+    (steps_lost g.S.InPhase g.R.Rack g.R.Checkpoint.room_of g.R.Checkpoint.commits c.deref.result.now c.commit_good.result a m store c.requires.well c.save.ensures.leaves c.commit_good.ensures
     (c.has_good.ensures.none c.if-has_good.false) c.args.hot.now c.in-Saved.sequence
     (subst (λ (r : SaveAnswer). StepsHot g.S.InPhase g.S.InPhase g.R.Rack c.args.hot.now a Save (save_reply r) m) c.in-Saved.is c.in_ok-sequence.ensures.steps))
 
@@ -76,7 +76,7 @@ returns-clause-kept g c =
         answer = c.commit_good.result;
         saved = c.save.ensures.leaves;
         commits =
-            subst (λ (bytes : List ℕ). CommitsArray g.R.Rack g.R.Checkpoint.room_of bytes c.commit_good.result m.store c.commit_good.new.store) says c.commit_good.ensures;
+            subst (λ (bytes : List ℕ). CommitsArray g.R.Rack g.R.Checkpoint.room_of g.R.Checkpoint.commits bytes c.commit_good.result m.store c.commit_good.new.store) says c.commit_good.ensures;
       },
       c.has_good.ensures.none c.if-has_good.false,
     )

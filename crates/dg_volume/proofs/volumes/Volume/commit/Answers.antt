@@ -20,11 +20,11 @@ commit_good-requires-clause-fits g c =
 
 pub returns-clause-on : goal.returns-clause-on
 returns-clause-on g c =
-    commit_goes g.S.InPhase g.R.Rack g.R.Checkpoint.room_of c.deref.result.now c.commit_good.result c.args.self.now c.commit_good.new.store c.commit_good.ensures c.requires.well
+    commit_goes g.S.InPhase g.R.Rack g.R.Checkpoint.room_of g.R.Checkpoint.commits c.deref.result.now c.commit_good.result c.args.self.now c.commit_good.new.store c.commit_good.ensures c.requires.well
 
 pub returns-clause-commits : goal.returns-clause-commits
 returns-clause-commits g c =
     let a = c.args.self.now in
     let says = c.deref.ensures.value ∙ c.in_ok-bytes.ensures ∙ ap (λ (extra : Extra). extra_bytes extra) c.in_ok-extra.ensures.is in
-    commits g.S.InPhase g.R.Rack g.R.Checkpoint.room_of c.commit_good.result a c.commit_good.new.store c.requires.well
-    (subst (λ (bytes : List ℕ). CommitsArray g.R.Rack g.R.Checkpoint.room_of bytes c.commit_good.result a.store c.commit_good.new.store) says c.commit_good.ensures)
+    commits g.S.InPhase g.R.Rack g.R.Checkpoint.room_of g.R.Checkpoint.commits c.commit_good.result a c.commit_good.new.store c.requires.well
+    (subst (λ (bytes : List ℕ). CommitsArray g.R.Rack g.R.Checkpoint.room_of g.R.Checkpoint.commits bytes c.commit_good.result a.store c.commit_good.new.store) says c.commit_good.ensures)

@@ -8,6 +8,7 @@ use Rattle.dg_store.specs.Stores.{shape_of}
 use Rattle.dg_volume.proofs.ReplaceSteps.{line_enough, replace_leaves, steps_failed, steps_lost, steps_not_out, steps_replaced, steps_unused}
 use Rattle.dg_pair.specs.declared.boundaries.ReplaceAnswer.TheVariants.{Failed, Lost, NotOut, Replaced}
 use Rattle.dg_volume.proofs.VolumeLaws.{leaves_none}
+use Rattle.dg_volume.specs.HeldLaws.{leaves_or_blank}
 use Rattle.dg_volume.specs.Volumes.{line_of}
 use Rattle.dg_volume.proofs.volumes.Volume.replace.Goals as goal
 
@@ -300,10 +301,12 @@ returns-in-Failed-clause-steps g c =
     })
 
 pub returns-then-boundary-self-clause-leaves : goal.returns-then-boundary-self-clause-leaves
-returns-then-boundary-self-clause-leaves g c = leaves_none g.S.InPhase g.R.Rack c.args.self.now c.requires.well
+returns-then-boundary-self-clause-leaves g c =
+    leaves_or_blank g.S.InPhase g.S.InPhase g.R.Rack c.args.self.now c.args.self.now (leaves_none g.S.InPhase g.R.Rack c.args.self.now c.requires.well)
 
 pub returns-in_default-clause-leaves : goal.returns-in_default-clause-leaves
-returns-in_default-clause-leaves g c = leaves_none g.S.InPhase g.R.Rack c.args.self.now c.requires.well
+returns-in_default-clause-leaves g c =
+    leaves_or_blank g.S.InPhase g.S.InPhase g.R.Rack c.args.self.now c.args.self.now (leaves_none g.S.InPhase g.R.Rack c.args.self.now c.requires.well)
 
 pub returns-in_default-clause-steps : goal.returns-in_default-clause-steps
 returns-in_default-clause-steps g c =

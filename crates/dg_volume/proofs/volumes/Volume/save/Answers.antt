@@ -7,6 +7,7 @@ use Rattle.dg_model.specs.declared.shapes.Shape.{Shape}
 use Rattle.dg_volume.proofs.SaveLaws.{save_leaves, save_steps}
 use Rattle.dg_volume.proofs.VolumeLaws.{leaves_none}
 use Rattle.dg_volume.specs.Copies.{StepsHot}
+use Rattle.dg_volume.specs.HeldLaws.{leaves_or_extend}
 use Rattle.dg_volume.specs.Saves.{save_reply}
 use Rattle.dg_volume.proofs.volumes.Volume.save.Goals as goal
 
@@ -30,7 +31,8 @@ returns-clause-steps g c =
     (subst (λ (x : Shape). AnswersSave g.R.Rack x c.deref.result.now a.store c.save.new.store a.label c.save.new.label c.in_ok-answer.answer) (c.line-line.ensures ∙ ap (λ (s : Shape). record s { b = c.args.self.now.in_use.long }) c.shape.ensures) k.answer))
 
 pub returns-in_err-body-clause-leaves : goal.returns-in_err-body-clause-leaves
-returns-in_err-body-clause-leaves g c = leaves_none g.S.InPhase g.R.Rack c.args.self.now c.requires.well
+returns-in_err-body-clause-leaves g c =
+    leaves_or_extend g.S.InPhase g.S.InPhase g.R.Rack c.args.self.now c.args.self.now (leaves_none g.S.InPhase g.R.Rack c.args.self.now c.requires.well)
 
 pub save-requires-clause-labeled : goal.save-requires-clause-labeled
 save-requires-clause-labeled g c =

@@ -1,0 +1,120 @@
+-- How the counts of a rack that is plain or double go with those of the rack behind it, over calls that read and write. Laws for the crates above.
+use Rattle.std.specs.Prelude.{◌≡◌, ◌≤◌, ◌<◌, ℕ, List, refl}
+use Rattle.std.proofs.Common.{arith, inl, inr, subst, sym}
+use Rattle.std.proofs.lemmas.Bool.{cases_lt}
+use Rattle.dg_io.specs.MadeLaws.{each_such}
+use Rattle.dg_io.specs.RackCalls.{Each, IsReadOrWrite, RackCall, blanks, calls, extends, looks}
+use Rattle.dg_io.specs.RackWords.{After, MadeOnly}
+use Rattle.dg_io.specs.declared.outside.Rack.{Ghosts}
+use Rattle.dg_model.specs.Causes.{Rose}
+use Rattle.dg_model.specs.States.{Counts, CountsRise}
+use Rattle.dg_stop.specs.DoubleCommits.{RisesBehind}
+use Rattle.dg_stop.specs.Doubles.{Double, DoubleMade, IsPlainOn}
+use Rattle.dg_stop.specs.StopCalls.{behind}
+use Rattle.dg_stop.specs.StopRacks.{StopCommits, StopMade, commits_by, made_by, stop_counts, stop_words}
+use Rattle.dg_stop.specs.declared.stop_racks.StopRack.{StopRack}
+use Rattle.dg_stop.specs.declared.stop_racks.StopRack.TheVariants.{Plain, Doubled}
+
+-- No count behind fell, and what the rack behind tells now it told before. The own count of a member that it tells rose only where that behind did.
+pub record RisesWithBehind {R : Type 0} (rack : Ghosts R) (old new : StopRack R) : Type 0 where
+  pub rise : CountsRise (rack.counts (behind old)) (rack.counts (behind new))
+  pub told_before : (q : ℕ) → rack.tells (behind new) q → rack.tells (behind old) q
+  pub tied : (q : ℕ) → rack.tells (behind new) q → (stop_counts rack old).faults q < (stop_counts rack new).faults q
+      → Rose ((rack.counts (behind old)).faults q) ((rack.counts (behind new)).faults q)
+
+-- a call that reads or writes is a plain one on each member
+plain_on : (q : ℕ) (call : RackCall) → IsReadOrWrite call → IsPlainOn q call
+plain_on q (looks p) is = absurd is
+plain_on q (blanks p) is = absurd is
+plain_on q (calls p) is = tt
+plain_on q (extends p) is = absurd is
+
+less_rose : (a b : ℕ) → a < b → Rose a b
+less_rose a b less = omega (arith, less)
+
+rose_then : (a b c : ℕ) → Rose a b → b ≤ c → Rose a c
+rose_then a b c rose later = omega (arith, rose, later)
+
+then_rose : (a b c : ℕ) → a ≤ b → Rose b c → Rose a c
+then_rose a b c later rose = omega (arith, rose, later)
+
+rise_both : (a b c : Counts) → CountsRise a b → CountsRise b c → CountsRise a c
+rise_both a b c first second = record {
+  faults = λ q. omega (arith, first.faults q, second.faults q);
+  calls = omega (arith, first.calls, second.calls);
+  writes = omega (arith, first.writes, second.writes);
+}
+
+rise_none : (a : Counts) → CountsRise a a
+rise_none a = record { faults = λ q. omega arith; calls = omega arith; writes = omega arith }
+
+module _ {R : Type 0} (rack : Ghosts R) where
+  -- the counts of a plain one are those behind
+  pub counts_of_plain : (it : R) → stop_counts rack (Plain it) ≡ rack.counts (behind (Plain it))
+  counts_of_plain it = refl
+
+  -- one after another
+  pub ties_both : (a b c : StopRack R) → RisesWithBehind rack a b → RisesWithBehind rack b c → RisesWithBehind rack a c
+  ties_both a b c first second = record {
+    rise = rise_both (rack.counts (behind a)) (rack.counts (behind b)) (rack.counts (behind c)) first.rise second.rise;
+    told_before = λ q tells. first.told_before q (second.told_before q tells);
+    tied = λ q tells rose. elim (cases_lt ((stop_counts rack a).faults q) ((stop_counts rack b).faults q)) [
+      | inl early ↦ rose_then _ _ _ (first.tied q (second.told_before q tells) early) (second.rise.faults q)
+      | inr late ↦ then_rose _ _ _ (first.rise.faults q) (second.tied q tells (omega (arith, rose, late)))
+    ];
+  }
+
+  -- ---- calls
+
+  module _ (after : (a b : R) (made : List RackCall) → rack.made a made b → After rack made a b) where
+    -- whatever calls are made, no count behind falls
+    rise_by : (a b : StopRack R) (made : List RackCall) → made_by rack a made b → CountsRise (rack.counts (behind a)) (rack.counts (behind b))
+    rise_by (Plain a) (Plain b) made is = (after a b made is).rise
+    rise_by (Plain a) (Doubled b) made is = absurd is
+    rise_by (Doubled a) (Plain b) made is = absurd is
+    rise_by (Doubled a) (Doubled b) made is = is.behind
+
+    told_by : (a b : StopRack R) (made : List RackCall) → made_by rack a made b → (q : ℕ) → rack.tells (behind b) q → rack.tells (behind a) q
+    told_by (Plain a) (Plain b) made is = (after a b made is).told_before
+    told_by (Plain a) (Doubled b) made is = absurd is
+    told_by (Doubled a) (Plain b) made is = absurd is
+    told_by (Doubled a) (Doubled b) made is = is.after.told_before
+
+    -- of calls that are plain ones on this member
+    tied_by : (a b : StopRack R) (made : List RackCall) → made_by rack a made b → (q : ℕ) → Each (IsPlainOn q) made → rack.tells (behind b) q
+        → (stop_counts rack a).faults q < (stop_counts rack b).faults q → Rose ((rack.counts (behind a)).faults q) ((rack.counts (behind b)).faults q)
+    tied_by (Plain a) (Plain b) made is q each tells rose = less_rose _ _ rose
+    tied_by (Plain a) (Doubled b) made is q each tells rose = absurd is
+    tied_by (Doubled a) (Plain b) made is q each tells rose = absurd is
+    tied_by (Doubled a) (Doubled b) made is q each tells rose = is.cause q tells each rose
+
+    pub calls_rise : (a b : StopRack R) (made : List RackCall) → StopMade rack a made b → CountsRise (rack.counts (behind a)) (rack.counts (behind b))
+    calls_rise a b made is = rise_by a b made is.by
+
+    -- a member that is neither looked for, made anew nor extended
+    pub plain_tied : (a b : StopRack R) (made : List RackCall) → StopMade rack a made b → (q : ℕ) → Each (IsPlainOn q) made → rack.tells (behind b) q
+        → (stop_counts rack a).faults q < (stop_counts rack b).faults q → Rose ((rack.counts (behind a)).faults q) ((rack.counts (behind b)).faults q)
+    plain_tied a b made is = tied_by a b made is.by
+
+    -- calls that read and write
+    pub reads_tied : (a b : StopRack R) (made : List RackCall) → StopMade rack a made b → Each IsReadOrWrite made → RisesWithBehind rack a b
+    reads_tied a b made is each = record {
+      rise = rise_by a b made is.by;
+      told_before = told_by a b made is.by;
+      tied = λ q. tied_by a b made is.by q (each_such IsReadOrWrite (IsPlainOn q) (plain_on q) made each);
+    }
+
+    pub only_tied : (a b : StopRack R) → MadeOnly (stop_words rack) IsReadOrWrite a b → RisesWithBehind rack a b
+    only_tied a b only = reads_tied a b only.calls only.made only.each
+
+  -- ---- commits
+
+  commits_rise_by : (a b : StopRack R) → commits_by rack a b → CountsRise (rack.counts (behind a)) (rack.counts (behind b))
+  commits_rise_by (Plain a) (Plain b) same = subst (λ (s : R). CountsRise (rack.counts a) (rack.counts s)) (sym same) (rise_none (rack.counts a))
+  commits_rise_by (Plain a) (Doubled b) is = absurd is
+  commits_rise_by (Doubled a) (Plain b) is = absurd is
+  commits_rise_by (Doubled a) (Doubled b) is = is.rise
+
+  -- no count behind falls by a commit
+  pub commits_rise : (a b : StopRack R) → StopCommits rack a b → CountsRise (rack.counts (behind a)) (rack.counts (behind b))
+  commits_rise a b is = commits_rise_by a b is.by
