@@ -17,12 +17,11 @@ use Rattle.dg_regroup.specs.LiveRacks.{HasNoneAbsent, is_there, live_in, rack_in
 use Rattle.dg_regroup.specs.declared.live_racks.LiveRack.{LiveRack}
 use Rattle.dg_run.proofs.Continuing.{begins_on, rises}
 use Rattle.dg_run.proofs.Happening.{tied_in}
-use Rattle.dg_run.proofs.Segments.{Begins, Segment, segment, there_by}
+use Rattle.dg_run.proofs.Segments.{Begins, Segment, of_replacements, segment, there_by}
 use Rattle.dg_run.specs.Histories.{IsBlankReady, IsReady, below_of, boundaries_of, live_of}
 use Rattle.dg_run.specs.Steps.{IsBlankArray, rack_of}
 use Rattle.dg_run.specs.declared.arrays.Array.{Array}
-use Rattle.dg_store.specs.Leaves.{IsAnyCallBelow, IsCallOrBlankBelow}
-use Rattle.dg_store.specs.ReadLaws.{any_of_blank, own_such}
+use Rattle.dg_store.specs.Leaves.{IsCallOrBlankBelow}
 
 -- the rack that comes back in the end is the one below
 pub into_below : {R : Type 0} {x : R} {y z : LiveRack R} → x ≡ rack_in y → y ≡ z → x ≡ rack_in z
@@ -49,10 +48,9 @@ module _ {R : Type 0} (rack : Ghosts R) (none : (s : R) → rack.made s [] s) (b
         let less : i < shape.b = omega (arith, low, length-range_with_len 0 shape.b) in
         omega (arith, get_or-range_with_len 0 shape.b i 0 less, less))
 
-    part : Segment rack shape.b start (rack_of array)
-    part = segment rack none both law (all_live shape.b) shape.b start (rack_of array) begins within
-        (subst (λ (n : ℕ). Makes (live rack) (IsAnyCallBelow n) start (rack_of array)) (sym (length-range_with_len 0 shape.b))
-        (own_such (live rack) IsCallOrBlankBelow IsAnyCallBelow any_of_blank shape.b start (rack_of array) blank.own).made) blank.tells
+    part : Segment rack IsCallOrBlankBelow shape.b start (rack_of array)
+    part = segment rack none both law IsCallOrBlankBelow of_replacements (all_live shape.b) shape.b start (rack_of array) begins within
+        (subst (λ (n : ℕ). Makes (live rack) (IsCallOrBlankBelow n) start (rack_of array)) (sym (length-range_with_len 0 shape.b)) blank.own.made) blank.tells
 
     live_same : live_of array ≡ all_live shape.b
     live_same = sym (ap (λ (s : State). s.live) blank.stands.volume.is) ∙ ap (λ (s : State). s.live) blank.blank.is
@@ -87,8 +85,8 @@ module _ {R : Type 0} (rack : Ghosts R) (none : (s : R) → rack.made s [] s) (b
       writes = (let none_made = absent.writes in let h : ((live rack).counts start).writes ≡ (rack.counts (rack_in start)).writes = omega (arith, none_made) in h) ∙ ap (λ (r : R). (rack.counts r).writes) from;
     }
 
-    made_before : Makes rack (IsAnyCallBelow shape.b) before (below_of array)
-    made_before = subst (λ (r : R). Makes rack (IsAnyCallBelow shape.b) r (below_of array)) from part.made
+    made_before : Makes rack (IsCallOrBlankBelow shape.b) before (below_of array)
+    made_before = subst (λ (r : R). Makes rack (IsCallOrBlankBelow shape.b) r (below_of array)) from part.made
 
     pub blank_ready : IsBlankReady rack shape before array
     blank_ready = record {
@@ -102,7 +100,7 @@ module _ {R : Type 0} (rack : Ghosts R) (none : (s : R) → rack.made s [] s) (b
         first = (live rack).counts start;
         is_blank = blank.blank;
         begun = λ is. begun;
-        rise = rises rack none both law (IsAnyCallBelow shape.b) before (below_of array) made_before;
+        rise = rises rack none both law (IsCallOrBlankBelow shape.b) before (below_of array) made_before;
         tied = tied_in rack none both law array blank.state ready blank.stands.volume;
       };
       stands = blank.stands;

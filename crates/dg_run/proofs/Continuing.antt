@@ -6,7 +6,7 @@ use Rattle.std.specs.List.{range_with_len}
 use Rattle.std.proofs.lemmas.List.{get_or-map, length-map}
 use Rattle.std.proofs.lemmas.List.Elements.{All-cons, All-get_or, All-nil, filter-append}
 use Rattle.dg_io.specs.Makes.{Makes}
-use Rattle.dg_io.specs.MakesLaws.{makes_both, makes_made, makes_none}
+use Rattle.dg_io.specs.MakesLaws.{makes_both, makes_made, makes_none, makes_such}
 use Rattle.dg_io.specs.MadeLaws.{each_such}
 use Rattle.dg_io.specs.RackCalls.{RackCall, IsNotOn}
 use Rattle.dg_io.specs.RackCalls.RackCall.{blanks, calls, extends, looks}
@@ -16,19 +16,21 @@ use Rattle.dg_io.specs.Told.{IsSame, Told}
 use Rattle.dg_io.specs.declared.outside.Rack.{Ghosts}
 use Rattle.dg_model.specs.Lives.{all_live, boundary_at, member_at}
 use Rattle.dg_model.specs.States.{CountsRise}
+use Rattle.dg_model.specs.declared.events.Event.{Event}
+use Rattle.dg_model.specs.declared.events.Event.TheVariants.{Array as MakeArray, Safe, Parity, Write, Read, Fail, Replace, Rebuild, Settle, Tend, Diffuse, Who, Pending, Cat, Ls, Tree, Home, Save, Regroup, LostFiles, Audit, DropDisk, MendDisk}
 use Rattle.dg_regroup.specs.LiveGhosts.{live}
 use Rattle.dg_regroup.specs.LivePassing.{own_calls, own_writes}
 use Rattle.dg_regroup.specs.LiveRacks.{DropsBoundaries, live_count, live_in, rack_in}
 use Rattle.dg_regroup.specs.declared.live_racks.LiveRack.{LiveRack}
-use Rattle.dg_run.proofs.Segments.{Begins, Segment, segment}
-use Rattle.dg_run.specs.Histories.{Continues, IsReady, TellsLine, below_of, boundaries_of, live_of}
+use Rattle.dg_run.proofs.Segments.{Begins, IsOfKind, Segment, of_reads, of_replacements, of_saves, segment}
+use Rattle.dg_run.specs.Courses.{calls_by}
+use Rattle.dg_run.specs.Histories.{Continues, ContinuesBy, IsReady, TellsLine, below_of, boundaries_of, live_of}
+use Rattle.dg_run.specs.Plain.{is_plain}
 use Rattle.dg_run.specs.Steps.{GoesReplaced, GoesSaved, rack_of, shape_of}
 use Rattle.dg_run.specs.declared.arrays.Array.{Array}
 use Rattle.dg_store.specs.Leaves.{IsAnyCallBelow, IsCallBelow, IsCallOrBlankBelow, IsCallOrExtendBelow}
-use Rattle.dg_store.specs.ReadLaws.{any_of_blank, any_of_call, any_of_extend, own_such}
 use Rattle.dg_store.specs.Reduced.{left_in}
 use Rattle.dg_store.specs.Stores as stores
-use Rattle.dg_volume.specs.HeldLaws.{leaves_such}
 use Rattle.dg_volume.specs.Regroups.{GoesOn, KeepsOrLeaves, TakesOut}
 use Rattle.dg_volume.specs.Volumes.{Leaves, LeavesBy, any_phase}
 use Rattle.dg_volume.specs.Volumes as volumes
@@ -97,6 +99,31 @@ begins_left numbers left lost b x y begins size bits drops =
           ∙ sym (get_or-map (boundary_at numbers) left i 0 0 within);
     }
 
+calls_of_plain : (event : Event) → is_plain event ≡ true → (bound : ℕ) (call : RackCall) → IsCallBelow bound call → calls_by event bound call
+calls_of_plain (MakeArray s) is bound call h = h
+calls_of_plain (Safe s) is bound call h = h
+calls_of_plain (Parity s n) is bound call h = h
+calls_of_plain (Write b x) is bound call h = h
+calls_of_plain (Read b) is bound call h = h
+calls_of_plain (Fail s j) is bound call h = h
+calls_of_plain (Replace s j) is bound call h = absurd (cc is)
+calls_of_plain (Rebuild s n) is bound call h = h
+calls_of_plain Settle is bound call h = h
+calls_of_plain (Tend n) is bound call h = h
+calls_of_plain Diffuse is bound call h = h
+calls_of_plain (Who b) is bound call h = h
+calls_of_plain Pending is bound call h = h
+calls_of_plain (Cat p) is bound call h = h
+calls_of_plain (Ls p) is bound call h = h
+calls_of_plain Tree is bound call h = h
+calls_of_plain (Home p) is bound call h = h
+calls_of_plain Save is bound call h = absurd (cc is)
+calls_of_plain Regroup is bound call h = h
+calls_of_plain LostFiles is bound call h = h
+calls_of_plain Audit is bound call h = h
+calls_of_plain (DropDisk s j) is bound call h = h
+calls_of_plain (MendDisk s j) is bound call h = h
+
 module _ {R : Type 0} (rack : Ghosts R) (none : (s : R) → rack.made s [] s) (both : (a b c : R) (x y : List RackCall) → rack.made a x b → rack.made b y c → rack.made a (x ++ y) c)
     (law : (a b : R) (made : List RackCall) → rack.made a made b → After rack made a b) where
   -- ---- what calls leave of the rack below
@@ -131,19 +158,21 @@ module _ {R : Type 0} (rack : Ghosts R) (none : (s : R) → rack.made s [] s) (b
   begins_of : (a : Array (LiveRack R)) → IsReady rack a → Begins (live_of a) (rack_of a)
   begins_of a ready = record { longer = ready.longer; places = ready.places }
 
-  segment_of : (a b : Array (LiveRack R)) → IsReady rack a → LeavesBy any_phase any_phase (live rack) IsAnyCallBelow a.volume b.volume → Segment rack (boundaries_of a) (rack_of a) (rack_of b)
-  segment_of a b ready leaves =
-      segment rack none both law (live_of a) (boundaries_of a) (rack_of a) (rack_of b) (begins_of a ready) ready.sound.in_use.live.within
-      (subst (λ (n : ℕ). Makes (live rack) (IsAnyCallBelow n) (rack_of a) (rack_of b)) (sym ready.sound.in_use.number) leaves.own.made) leaves.tells
+  segment_of : (may : ℕ → RackCall → Type 0) → IsOfKind may → (a b : Array (LiveRack R)) → IsReady rack a → LeavesBy any_phase any_phase (live rack) may a.volume b.volume
+      → Segment rack may (boundaries_of a) (rack_of a) (rack_of b)
+  segment_of may kind a b ready leaves =
+      segment rack none both law may kind (live_of a) (boundaries_of a) (rack_of a) (rack_of b) (begins_of a ready) ready.sound.in_use.live.within
+      (subst (λ (n : ℕ). Makes (live rack) (may n) (rack_of a) (rack_of b)) (sym ready.sound.in_use.number) leaves.own.made) leaves.tells
 
   whole_on : (a b : Array (LiveRack R)) → live_in (rack_of b) ≡ live_in (rack_of a) → live_of b ≡ live_of a → boundaries_of b ≡ boundaries_of a
       → (live_in (rack_of a) ≡ all_live 16) ⊎ (length (live_of a) < boundaries_of a) → (live_in (rack_of b) ≡ all_live 16) ⊎ (length (live_of b) < boundaries_of b)
   whole_on a b same live_is line (inl all) = inl (same ∙ all)
   whole_on a b same live_is line (inr less) = inr (omega (arith, ap length live_is, line, less))
 
-  continues_any : (a b : Array (LiveRack R)) → IsReady rack a → LeavesBy any_phase any_phase (live rack) IsAnyCallBelow a.volume b.volume → Continues rack a b
-  continues_any a b ready leaves =
-      let s = segment_of a b ready leaves in
+  continues_of : (may : ℕ → RackCall → Type 0) → IsOfKind may → (a b : Array (LiveRack R)) → IsReady rack a → LeavesBy any_phase any_phase (live rack) may a.volume b.volume
+      → ContinuesBy rack may a b
+  continues_of may kind a b ready leaves =
+      let s = segment_of may kind a b ready leaves in
       let begins = begins_on (live_of a) (live_of b) (rack_of a) (rack_of b) s.live_is leaves.live (begins_of a ready) in
       record {
         ready = record {
@@ -161,23 +190,58 @@ module _ {R : Type 0} (rack : Ghosts R) (none : (s : R) → rack.made s [] s) (b
       }
 
   -- by an event that reads and writes, by one that saves, and by one that makes a member anew
+  pub reads_by : (a b : Array (LiveRack R)) → IsReady rack a → Leaves any_phase any_phase (live rack) a.volume b.volume → ContinuesBy rack IsCallBelow a b
+  reads_by a b ready leaves = continues_of IsCallBelow of_reads a b ready leaves
+
+  pub saves_by : (a b : Array (LiveRack R)) → IsReady rack a → GoesSaved (live rack) a b → ContinuesBy rack IsCallOrExtendBelow a b
+  saves_by a b ready leaves = continues_of IsCallOrExtendBelow of_saves a b ready leaves
+
+  pub replaces_by : (a b : Array (LiveRack R)) → IsReady rack a → GoesReplaced (live rack) a b → ContinuesBy rack IsCallOrBlankBelow a b
+  replaces_by a b ready leaves = continues_of IsCallOrBlankBelow of_replacements a b ready leaves
+
+  -- calls of a kind are calls that look for no member
+  continues_any : (may : ℕ → RackCall → Type 0) → IsOfKind may → (a b : Array (LiveRack R)) → ContinuesBy rack may a b → Continues rack a b
+  continues_any may kind a b goes = record {
+    ready = goes.ready;
+    line = goes.line;
+    boundaries = goes.boundaries;
+    made = makes_such rack (may (boundaries_of a)) (IsAnyCallBelow (boundaries_of a)) (kind.any (boundaries_of a)) (below_of a) (below_of b) goes.made;
+    tells = goes.tells;
+  }
+
+  pub any_read : (a b : Array (LiveRack R)) → ContinuesBy rack IsCallBelow a b → Continues rack a b
+  any_read a b goes = continues_any IsCallBelow of_reads a b goes
+
   pub continues_by : (a b : Array (LiveRack R)) → IsReady rack a → Leaves any_phase any_phase (live rack) a.volume b.volume → Continues rack a b
-  continues_by a b ready leaves = continues_any a b ready (leaves_such any_phase any_phase (live rack) IsCallBelow IsAnyCallBelow any_of_call a.volume b.volume leaves)
+  continues_by a b ready leaves = any_read a b (reads_by a b ready leaves)
 
   pub continues_saved : (a b : Array (LiveRack R)) → IsReady rack a → GoesSaved (live rack) a b → Continues rack a b
-  continues_saved a b ready leaves = continues_any a b ready (leaves_such any_phase any_phase (live rack) IsCallOrExtendBelow IsAnyCallBelow any_of_extend a.volume b.volume leaves)
+  continues_saved a b ready leaves = continues_any IsCallOrExtendBelow of_saves a b (saves_by a b ready leaves)
 
   pub continues_replaced : (a b : Array (LiveRack R)) → IsReady rack a → GoesReplaced (live rack) a b → Continues rack a b
-  continues_replaced a b ready leaves = continues_any a b ready (leaves_such any_phase any_phase (live rack) IsCallOrBlankBelow IsAnyCallBelow any_of_blank a.volume b.volume leaves)
+  continues_replaced a b ready leaves = continues_any IsCallOrBlankBelow of_replacements a b (replaces_by a b ready leaves)
 
-  pub continues_none : (a : Array (LiveRack R)) → IsReady rack a → Continues rack a a
-  continues_none a ready = record {
+  -- an event that makes no member anew nor extends one makes calls of its kind so
+  pub reads_plain : (event : Event) → is_plain event ≡ true → (a b : Array (LiveRack R)) → ContinuesBy rack IsCallBelow a b → ContinuesBy rack (calls_by event) a b
+  reads_plain event is a b goes = record {
+    ready = goes.ready;
+    line = goes.line;
+    boundaries = goes.boundaries;
+    made = makes_such rack (IsCallBelow (boundaries_of a)) (calls_by event (boundaries_of a)) (calls_of_plain event is (boundaries_of a)) (below_of a) (below_of b) goes.made;
+    tells = goes.tells;
+  }
+
+  pub reads_none : (a : Array (LiveRack R)) → IsReady rack a → ContinuesBy rack IsCallBelow a a
+  reads_none a ready = record {
     ready = ready;
     line = refl;
     boundaries = refl;
-    made = makes_none rack (IsAnyCallBelow (boundaries_of a)) (below_of a);
+    made = makes_none rack (IsCallBelow (boundaries_of a)) (below_of a);
     tells = λ q told. told;
   }
+
+  pub continues_none : (a : Array (LiveRack R)) → IsReady rack a → Continues rack a a
+  continues_none a ready = any_read a a (reads_none a ready)
 
   pub continues_then : (a b c : Array (LiveRack R)) → Continues rack a b → Continues rack b c → Continues rack a c
   continues_then a b c first second = record {
@@ -206,12 +270,12 @@ module _ {R : Type 0} (rack : Ghosts R) (none : (s : R) → rack.made s [] s) (b
 
   -- What that leaves: the two chains of calls, and what stood between them.
   pub record Parts (a b : Array (LiveRack R)) (mid left : LiveRack R) : Type 0 where
-    pub first : Segment rack (boundaries_of a) (rack_of a) mid
+    pub first : Segment rack IsCallBelow (boundaries_of a) (rack_of a) mid
     pub same : rack_in left ≡ rack_in mid
     pub own : own_calls left ≡ own_calls mid
     pub own_writes_are : own_writes left ≡ own_writes mid
     pub begins : Begins (live_of b) left
-    pub second : Segment rack (boundaries_of a) left (rack_of b)
+    pub second : Segment rack IsCallBelow (boundaries_of a) left (rack_of b)
 
   pub parts_of : (a b : Array (LiveRack R)) → IsReady rack a → GoesOn any_phase (live rack) a.volume b.volume
       → (out : TakesOut (live rack) live_count DropsBoundaries a.volume.store b.volume.store) → live_of b ≡ map (boundary_at (live_of a)) (left_in out.mid)
@@ -220,9 +284,8 @@ module _ {R : Type 0} (rack : Ghosts R) (none : (s : R) → rack.made s [] s) (b
       let mid = stores.rack_of out.mid in
       let left = stores.rack_of out.left in
       let size : length (live_of a) ≡ (shape_of a).b = ready.sound.in_use.number in
-      let first = segment rack none both law (live_of a) (boundaries_of a) (rack_of a) mid (begins_of a ready) ready.sound.in_use.live.within
-      (subst (λ (n : ℕ). Makes (live rack) (IsAnyCallBelow n) (rack_of a) mid) (sym size)
-      (own_such (live rack) IsCallBelow IsAnyCallBelow any_of_call (shape_of a).b (rack_of a) mid out.opened.own).made) out.opened.stays.tells in
+      let first = segment rack none both law IsCallBelow of_reads (live_of a) (boundaries_of a) (rack_of a) mid (begins_of a ready) ready.sound.in_use.live.within
+      (subst (λ (n : ℕ). Makes (live rack) (IsCallBelow n) (rack_of a) mid) (sym size) out.opened.own.made) out.opened.stays.tells in
       let begins_mid : Begins (live_of a) mid = begins_on (live_of a) (live_of a) (rack_of a) mid first.live_is refl (begins_of a ready) in
       let same_b : length (live_of a) ≡ (stores.shape_of out.mid).b = size ∙ sym (ap (λ s. s.b) out.opened.shape) in
       let begins_left = begins_left (live_of a) (left_in out.mid) (stores.lost_bits (stores.members_of out.mid) (stores.shape_of out.mid).b) (stores.shape_of out.mid).b mid left
@@ -240,9 +303,9 @@ module _ {R : Type 0} (rack : Ghosts R) (none : (s : R) → rack.made s [] s) (b
         own = omega (arith, calls_same, out.leaves.calls);
         own_writes_are = omega (arith, writes_same, out.leaves.writes);
         begins = begins;
-        second = segment rack none both law (live_of b) (boundaries_of a) left (rack_of b) begins (subst (λ (n : ℕ). All (λ s. s < n) (live_of b)) goes.boundaries well.in_use.live.within)
-            (subst (λ (n : ℕ). Makes (live rack) (IsAnyCallBelow n) left (rack_of b)) (sym wide)
-            (own_such (live rack) IsCallBelow IsAnyCallBelow any_of_call (stores.shape_of out.left).b left (rack_of b) out.read.own).made) out.read.stays.tells;
+        second = segment rack none both law IsCallBelow of_reads (live_of b) (boundaries_of a) left (rack_of b) begins
+            (subst (λ (n : ℕ). All (λ s. s < n) (live_of b)) goes.boundaries well.in_use.live.within)
+            (subst (λ (n : ℕ). Makes (live rack) (IsCallBelow n) left (rack_of b)) (sym wide) out.read.own.made) out.read.stays.tells;
       }
 
   fewer_out : (a b : Array (LiveRack R)) → IsReady rack a → GoesOn any_phase (live rack) a.volume b.volume
@@ -254,9 +317,9 @@ module _ {R : Type 0} (rack : Ghosts R) (none : (s : R) → rack.made s [] s) (b
       let most = ready.sound.long in
       omega (arith, count, out.fewer, same_b, fewer, most, goes.boundaries)
 
-  pub continues_out : (a b : Array (LiveRack R)) → IsReady rack a → GoesOn any_phase (live rack) a.volume b.volume
-      → (out : TakesOut (live rack) live_count DropsBoundaries a.volume.store b.volume.store) → live_of b ≡ map (boundary_at (live_of a)) (left_in out.mid) → Continues rack a b
-  continues_out a b ready goes out is =
+  pub reads_out : (a b : Array (LiveRack R)) → IsReady rack a → GoesOn any_phase (live rack) a.volume b.volume
+      → (out : TakesOut (live rack) live_count DropsBoundaries a.volume.store b.volume.store) → live_of b ≡ map (boundary_at (live_of a)) (left_in out.mid) → ContinuesBy rack IsCallBelow a b
+  reads_out a b ready goes out is =
       let mid = stores.rack_of out.mid in
       let left = stores.rack_of out.left in
       let p = parts_of a b ready goes out is in
@@ -272,8 +335,8 @@ module _ {R : Type 0} (rack : Ghosts R) (none : (s : R) → rack.made s [] s) (b
         };
         line = goes.line;
         boundaries = goes.boundaries;
-        made = makes_both rack (IsAnyCallBelow (boundaries_of a)) (below_of a) (rack_in mid) (below_of b) p.first.made
-            (subst (λ (r : R). Makes rack (IsAnyCallBelow (boundaries_of a)) r (below_of b)) p.same p.second.made);
+        made = makes_both rack (IsCallBelow (boundaries_of a)) (below_of a) (rack_in mid) (below_of b) p.first.made
+            (subst (λ (r : R). Makes rack (IsCallBelow (boundaries_of a)) r (below_of b)) p.same p.second.made);
         tells = λ q told. p.first.tells q (subst (λ (r : R). IsSome (rack.bytes r q)) p.same (p.second.tells q told));
       }
 
@@ -281,7 +344,7 @@ module _ {R : Type 0} (rack : Ghosts R) (none : (s : R) → rack.made s [] s) (b
   pub continues_wanting : (a b : Array (LiveRack R)) → IsReady rack a → GoesOn any_phase (live rack) a.volume b.volume → KeepsOrLeaves (live rack) live_count DropsBoundaries a.volume b.volume
       → Continues rack a b
   continues_wanting a b ready goes (inl kept) = continues_by a b ready kept.0
-  continues_wanting a b ready goes (inr out) = continues_out a b ready goes out.out out.live_is
+  continues_wanting a b ready goes (inr out) = any_read a b (reads_out a b ready goes out.out out.live_is)
 
   -- what is told in the end of the first line's members was told of the members that were in use
   pub told_mid : (a b : Array (LiveRack R)) → IsReady rack a → (goes : GoesOn any_phase (live rack) a.volume b.volume)
@@ -297,4 +360,4 @@ module _ {R : Type 0} (rack : Ghosts R) (none : (s : R) → rack.made s [] s) (b
       let low : slice_index (live_of a) (q / 2) < boundaries_of a = All-get_or (λ s. s < boundaries_of a) (live_of a) (q / 2) 0 place ready.sound.in_use.live.within in
       let here : member_at (live_in mid) q / 2 < boundaries_of b = omega (arith, number, low, goes.boundaries) in
       subst (λ (r : R). rack.tells r (member_at (live_in mid) q)) p.same
-      (told_before (IsAnyCallBelow (boundaries_of a)) (rack_in (stores.rack_of out.left)) (below_of b) p.second.made (member_at (live_in mid) q) (tells (member_at (live_in mid) q) here))
+      (told_before (IsCallBelow (boundaries_of a)) (rack_in (stores.rack_of out.left)) (below_of b) p.second.made (member_at (live_in mid) q) (tells (member_at (live_in mid) q) here))

@@ -6,28 +6,29 @@ use Rattle.dg_io.specs.RackCalls.{RackCall}
 use Rattle.dg_io.specs.RackWords.{After}
 use Rattle.dg_io.specs.declared.outside.Rack.{Ghosts}
 use Rattle.dg_model.proofs.KnownLaws.{step_less}
+use Rattle.dg_model.proofs.MomentLaws.{tied_less}
 use Rattle.std.proofs.lemmas.List.FromFn.{get_or-range_with_len, length-range_with_len}
 use Rattle.dg_model.specs.Lives.{all_live, member_at}
-use Rattle.dg_model.specs.Moments.{AreCountsOf, Happens, History, IsAllowed, Moment}
+use Rattle.dg_model.specs.Moments.{AreCountsOf, Happens, History, IsAllowed, Kind, Makes as MakesArray, Moment}
 use Rattle.dg_model.specs.Moments.Kind.{plain}
-use Rattle.dg_model.specs.States.{State}
+use Rattle.dg_model.specs.States.{Counts, State}
 use Rattle.dg_model.specs.Steps.{IsReduced, Step}
 use Rattle.dg_model.specs.declared.events.Event.{Event}
 use Rattle.dg_model.specs.declared.events.Event.TheVariants.{Array, Safe, Parity, Write, Read, Fail, Replace, Rebuild, Settle, Tend, Diffuse, Who, Pending, Cat, Ls, Tree, Home, Save, Regroup, LostFiles, Audit, DropDisk, MendDisk}
 use Rattle.dg_model.specs.declared.replies.Reply.{Reply}
 use Rattle.dg_model.specs.declared.replies.Reply.TheVariants.{Lost, NotParity, Saved}
+use Rattle.dg_model.specs.declared.shapes.Shape.{Shape}
 use Rattle.dg_regroup.specs.LiveGhosts.{live}
 use Rattle.dg_regroup.specs.LiveRacks.{is_there, live_counts, live_in}
 use Rattle.dg_regroup.specs.declared.live_racks.LiveRack.{LiveRack}
 use Rattle.dg_run.proofs.Continuing.{rises, told_volume}
 use Rattle.dg_run.proofs.Segments.{by_place, there_by}
-use Rattle.dg_run.specs.Courses.{AnswersPairs, Course, Leading, Standing}
-use Rattle.dg_run.specs.Histories.{Continues, EventAnswered, EventCut, EventDone, EventListed, EventWanted, IsReady, KnownBy, RunsTo, VolumeRunsTo, standing_of, below_of, boundaries_of, live_of, on_pairs}
+use Rattle.dg_run.specs.Courses.{AnswersPairs, Course, Leading, Standing, calls_by}
+use Rattle.dg_run.specs.Histories.{ContinuesBy, EventAnswered, EventCut, EventDone, EventListed, EventWanted, IsReady, KnownBy, RunsTo, VolumeRunsTo, standing_of, below_of, boundaries_of, live_of, on_pairs}
 use Rattle.dg_run.specs.Plain.{IsOfPairs}
 use Rattle.dg_run.specs.Replays.{HoldsInUse}
 use Rattle.dg_run.specs.Steps.{Answered, AnsweredBefore, AnsweredPart, Known, ListedBefore, StandsIn, StepsTo, VolumeStepsTo, WantedFor, rack_of}
 use Rattle.dg_run.specs.declared.arrays.Array as arrays
-use Rattle.dg_store.specs.Leaves.{IsCallBelow}
 use Rattle.dg_volume.specs.HeldLaws.{holds_all}
 use Rattle.dg_volume.specs.Volumes.{any_phase}
 use Rattle.dg_volume.specs.Volumes as volumes
@@ -52,6 +53,17 @@ course_both rack K old [] (reply ∷ replies) mid more others new first second =
 course_both rack K old (event ∷ events) [] mid more others new first second = absurd first
 course_both rack K old (event ∷ events) (reply ∷ replies) mid more others new first second =
     (first.0, first.1, course_both rack K first.0 events replies mid more others new first.2 second)
+
+-- what is made of a blank array, where less is known
+pub makes_less : {K J : Type 0} {kind : Kind} {event : Event} {shape : Shape} {before : Counts} {blank : Moment} → (J → K) → MakesArray K kind event shape before blank
+    → MakesArray J kind event shape before blank
+makes_less {kind = kind} {event = event} {before = before} {blank = blank} w h = record {
+  first = h.first;
+  is_blank = h.is_blank;
+  begun = h.begun;
+  rise = h.rise;
+  tied = tied_less w kind event (record { state = record blank.state { counts = h.first }; beneath = record { counts = before; out = λ d. false } }) blank h.tied;
+}
 
 -- ---- what mirrored pairs answer
 
@@ -119,14 +131,14 @@ module _ {R : Type 0} (rack : Ghosts R) (none : (s : R) → rack.made s [] s) (b
       → AreCountsOf state.live (rack.counts (below_of b)) state.counts
   tied_in b state ready stands = subst (λ (s : State). AreCountsOf s.live (rack.counts (below_of b)) s.counts) (sym stands.is) (tied_at b ready)
 
-  pub leads_on : {P Q : Type 0} (a b : arrays.Array (LiveRack R)) (event : Event) (reply : Reply) (state next : State) → Continues rack a b
+  pub leads_on : {P Q : Type 0} (a b : arrays.Array (LiveRack R)) (event : Event) (reply : Reply) (state next : State) → ContinuesBy rack (calls_by event) a b
       → volumes.StandsIn any_phase (live rack) Q b.volume next → AnswersPairs state event reply → Step P state event reply next
       → Leading rack P (standing_of a state) event reply (standing_of b next)
   leads_on a b event reply state next goes stands answers step = record {
     step = step;
     answers = answers;
     tied = tied_in b next goes.ready stands;
-    made = subst (λ (n : ℕ). Makes rack (IsCallBelow n) (below_of a) (below_of b)) (sym (ap (λ (s : State). s.boundaries) stands.is ∙ goes.boundaries)) goes.made;
+    made = subst (λ (n : ℕ). Makes rack (calls_by event n) (below_of a) (below_of b)) (sym (ap (λ (s : State). s.boundaries) stands.is ∙ goes.boundaries)) goes.made;
   }
 
   -- ---- the history of mirrored pairs
@@ -135,7 +147,7 @@ module _ {R : Type 0} (rack : Ghosts R) (none : (s : R) → rack.made s [] s) (b
   happens old new event reply h = record {
     step = h.step;
     allowed = allowed_of (on_pairs rack old) (on_pairs rack new) event reply h.answers;
-    rise = rises rack none both law (IsCallBelow new.state.boundaries) old.rack new.rack h.made;
+    rise = rises rack none both law (calls_by event new.state.boundaries) old.rack new.rack h.made;
     tied = h.tied;
   }
 
@@ -182,7 +194,7 @@ module _ {R : Type 0} (rack : Ghosts R) (none : (s : R) → rack.made s [] s) (b
     by (DropDisk s j) r h = h
     by (MendDisk s j) r h = h
 
-  pub runs_of : (a b : arrays.Array (LiveRack R)) (event : Event) (reply : Reply) → Continues rack a b → IsOfPairs a event reply → StepsTo (live rack) a event reply b
+  pub runs_of : (a b : arrays.Array (LiveRack R)) (event : Event) (reply : Reply) → ContinuesBy rack (calls_by event) a b → IsOfPairs a event reply → StepsTo (live rack) a event reply b
       → RunsTo rack a (event ∷ []) (reply ∷ []) b
   runs_of a b event reply goes pairs steps origin state st =
       let one = steps origin state st in
@@ -195,7 +207,7 @@ module _ {R : Type 0} (rack : Ghosts R) (none : (s : R) → rack.made s [] s) (b
         course = (standing_of b one.0, leads_on a b event reply state one.0 goes one.1.volume answers (step_less (known_of b goes.ready) state event reply one.0 one.2), refl);
       }
 
-  pub volume_runs_of : (a b : arrays.Array (LiveRack R)) (event : Event) (reply : Reply) → Continues rack a b → IsOfPairs a event reply → VolumeStepsTo (live rack) a event reply b
+  pub volume_runs_of : (a b : arrays.Array (LiveRack R)) (event : Event) (reply : Reply) → ContinuesBy rack (calls_by event) a b → IsOfPairs a event reply → VolumeStepsTo (live rack) a event reply b
       → VolumeRunsTo rack a (event ∷ []) (reply ∷ []) b
   volume_runs_of a b event reply goes pairs steps origin state st =
       let one = steps origin state st in
@@ -245,7 +257,7 @@ module _ {R : Type 0} (rack : Ghosts R) (none : (s : R) → rack.made s [] s) (b
 
   -- ---- answers
 
-  module _ (event : Event) (taken given : Option (List ℕ)) (a b : arrays.Array (LiveRack R)) (goes : Continues rack a b) (pairs : (reply : Reply) → IsOfPairs a event reply) where
+  module _ (event : Event) (taken given : Option (List ℕ)) (a b : arrays.Array (LiveRack R)) (goes : ContinuesBy rack (calls_by event) a b) (pairs : (reply : Reply) → IsOfPairs a event reply) where
     pub event_answered : {T E : Type 0} (result : Result T E) → OnOk result (Answered (live rack) event taken given a b) → OnOk result (EventAnswered rack event taken given a b)
     event_answered (Ok done) h = record { reply = h.reply; runs = runs_of a b event h.reply goes (pairs h.reply) h.steps; output = h.output }
     event_answered (Err fault) h = tt

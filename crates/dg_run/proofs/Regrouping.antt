@@ -15,7 +15,7 @@ use Rattle.dg_regroup.specs.LiveGhosts.{live}
 use Rattle.dg_regroup.specs.LiveRacks.{DropsBoundaries, live_count, live_in, named}
 use Rattle.dg_regroup.specs.declared.live_racks.LiveRack.{LiveRack}
 use Rattle.dg_run.proofs.ArraySteps.{steps_of}
-use Rattle.dg_run.proofs.Continuing.{continues_by, continues_out, told_mid, told_volume}
+use Rattle.dg_run.proofs.Continuing.{any_read, continues_by, reads_by, reads_out, told_mid, told_volume}
 use Rattle.dg_run.proofs.Happening.{leads_on, runs_of}
 use Rattle.dg_run.specs.Histories.{Continues, IsReady, KnownBy, RunsTo, TellsLine, below_of, standing_of}
 use Rattle.dg_run.specs.Regroups.{regroup_reply}
@@ -49,13 +49,13 @@ module _ {R : Type 0} (rack : Ghosts R) (none : (s : R) → rack.made s [] s) (b
       → AnswersRegroup (live rack) live_count DropsBoundaries a.volume b.volume answer → Continues rack a b
   continues_answer a b Whole ready goes h = continues_by rack none both law a b ready h.leaves
   continues_answer a b TooFew ready goes h = continues_by rack none both law a b ready h.leaves
-  continues_answer a b (Regrouped r c) ready goes h = continues_out rack none both law a b ready goes h.out h.live_is
+  continues_answer a b (Regrouped r c) ready goes h = any_read rack none both law a b (reads_out rack none both law a b ready goes h.out h.live_is)
 
   runs_out : (a b : Array (LiveRack R)) (r c : ℕ) → IsReady rack a → b.hot ≡ a.hot → GoesOn volumes.any_phase (live rack) a.volume b.volume
       → IsRegrouped (live rack) live_count DropsBoundaries r c a.volume b.volume → RunsTo rack a (Regroup ∷ []) (RegroupedReply r c ∷ []) b
   runs_out a b r c ready hot goes h origin state st =
       let one = h.steps origin state st.volume in
-      let on = continues_out rack none both law a b ready goes h.out h.live_is in
+      let on = reads_out rack none both law a b ready goes h.out h.live_is in
       let known : TellsLine rack b → WasHeld (live rack) origin → WasHeld (live rack) (told_in h.out.mid origin) =
       λ tells held. (held, told_mid rack none both law a b ready goes h.out h.live_is tells) in
       let step = step_less (λ (k : KnownBy (WasHeld (live rack) origin) rack b). (told_volume rack none both law b on.ready k.0, known k.0 k.1)) state Regroup (RegroupedReply r c) one.0 one.2 in
@@ -74,7 +74,7 @@ module _ {R : Type 0} (rack : Ghosts R) (none : (s : R) → rack.made s [] s) (b
   pub runs_answer : (a b : Array (LiveRack R)) (answer : RegroupAnswer) → IsReady rack a → b.hot ≡ a.hot → GoesOn volumes.any_phase (live rack) a.volume b.volume
       → AnswersRegroup (live rack) live_count DropsBoundaries a.volume b.volume answer → RunsTo rack a (Regroup ∷ []) (regroup_reply answer ∷ []) b
   runs_answer a b Whole ready hot goes h =
-      runs_of rack none both law a b Regroup WholeReply (continues_by rack none both law a b ready h.leaves) tt (steps_of (live rack) a b Regroup WholeReply tt hot h.steps)
+      runs_of rack none both law a b Regroup WholeReply (reads_by rack none both law a b ready h.leaves) tt (steps_of (live rack) a b Regroup WholeReply tt hot h.steps)
   runs_answer a b TooFew ready hot goes h =
-      runs_of rack none both law a b Regroup TooFewReply (continues_by rack none both law a b ready h.leaves) tt (steps_of (live rack) a b Regroup TooFewReply tt hot h.steps)
+      runs_of rack none both law a b Regroup TooFewReply (reads_by rack none both law a b ready h.leaves) tt (steps_of (live rack) a b Regroup TooFewReply tt hot h.steps)
   runs_answer a b (Regrouped r c) ready hot goes h = runs_out a b r c ready hot goes h

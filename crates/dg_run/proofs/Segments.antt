@@ -5,7 +5,7 @@ use Rattle.std.proofs.lemmas.Bool.{cases_order}
 use Rattle.std.proofs.lemmas.Bool.Decides.{nat_tests}
 use Rattle.std.proofs.lemmas.List.Elements.{All-get_or}
 use Rattle.dg_io.specs.Makes.{Makes}
-use Rattle.dg_io.specs.MakesLaws.{makes_made, makes_such}
+use Rattle.dg_io.specs.MakesLaws.{makes_made}
 use Rattle.dg_io.specs.MadeLaws.{each_such}
 use Rattle.dg_io.specs.RackCalls.{RackCall, IsNotOn}
 use Rattle.dg_io.specs.RackCalls.RackCall.{blanks, calls, extends, looks}
@@ -18,7 +18,8 @@ use Rattle.dg_regroup.specs.LiveMade.{call_below, is_passed}
 use Rattle.dg_regroup.specs.LivePassing.{own_calls, own_writes, passes_on}
 use Rattle.dg_regroup.specs.LiveRacks.{is_there, live_in, rack_in}
 use Rattle.dg_regroup.specs.declared.live_racks.LiveRack.{LiveRack}
-use Rattle.dg_store.specs.Leaves.{IsAnyCallBelow}
+use Rattle.dg_store.specs.Leaves.{IsAnyCallBelow, IsCallBelow, IsCallOrBlankBelow, IsCallOrExtendBelow}
+use Rattle.dg_store.specs.ReadLaws.{any_of_blank, any_of_call, any_of_extend}
 
 -- a number stands in a list, or nowhere
 find_number : (numbers : List ℕ) (s : ℕ) → ((x : ℕ) × (x < length numbers) × (slice_index numbers x ≡ s)) ⊎ ((x : ℕ) → x < length numbers → slice_index numbers x ≢ s)
@@ -51,17 +52,45 @@ there_by numbers q low = grind (arith, nat_tests)
 half : (n q : ℕ) → (2 * n + q % 2) / 2 ≡ n
 half n q = omega arith
 
-among_below : (numbers : List ℕ) (bound : ℕ) → All (λ s. s < bound) numbers → (call : RackCall) → IsCallAmong numbers call → IsAnyCallBelow bound call
-among_below numbers bound low (looks p) h = absurd h
-among_below numbers bound low (blanks p) h =
-    let less : slice_index numbers (h.0 / 2) < bound = All-get_or (λ s. s < bound) numbers (h.0 / 2) 0 h.1 low in
-    omega (arith, less, half (slice_index numbers (h.0 / 2)) h.0, h.2)
-among_below numbers bound low (calls p) h =
-    let less : slice_index numbers (h.0 / 2) < bound = All-get_or (λ s. s < bound) numbers (h.0 / 2) 0 h.1 low in
-    omega (arith, less, half (slice_index numbers (h.0 / 2)) h.0, h.2)
-among_below numbers bound low (extends p) h =
-    let less : slice_index numbers (h.0 / 2) < bound = All-get_or (λ s. s < bound) numbers (h.0 / 2) 0 h.1 low in
-    omega (arith, less, half (slice_index numbers (h.0 / 2)) h.0, h.2)
+-- a member of one of the first boundaries of a rack is one of a boundary below the number
+number_below : (numbers own : List ℕ) (bound : ℕ) → All (λ s. s < bound) numbers → ((i : ℕ) → i < length numbers → slice_index own i ≡ slice_index numbers i)
+    → (q : ℕ) → q / 2 < length numbers → member_at own q / 2 < bound
+number_below numbers own bound low places q here =
+    let less : slice_index numbers (q / 2) < bound = All-get_or (λ s. s < bound) numbers (q / 2) 0 here low in
+    omega (arith, less, places (q / 2) here, half (slice_index own (q / 2)) q)
+
+-- A kind of calls on the members of so many boundaries: none of them looks for a member, and a call stays one of that kind on the rack below.
+pub record IsOfKind (may : ℕ → RackCall → Type 0) : Type 0 where
+  pub any : (bound : ℕ) (call : RackCall) → may bound call → IsAnyCallBelow bound call
+  pub below : (numbers own : List ℕ) (bound : ℕ) → All (λ s. s < bound) numbers → ((i : ℕ) → i < length numbers → slice_index own i ≡ slice_index numbers i)
+      → (call : RackCall) → may (length numbers) call → may bound (call_below own call)
+
+pub of_reads : IsOfKind IsCallBelow
+of_reads = record { any = any_of_call; below = below } where
+  below : (numbers own : List ℕ) (bound : ℕ) → All (λ s. s < bound) numbers → ((i : ℕ) → i < length numbers → slice_index own i ≡ slice_index numbers i)
+      → (call : RackCall) → IsCallBelow (length numbers) call → IsCallBelow bound (call_below own call)
+  below numbers own bound low places (looks q) is = absurd is
+  below numbers own bound low places (blanks q) is = absurd is
+  below numbers own bound low places (calls q) is = number_below numbers own bound low places q is
+  below numbers own bound low places (extends q) is = absurd is
+
+pub of_saves : IsOfKind IsCallOrExtendBelow
+of_saves = record { any = any_of_extend; below = below } where
+  below : (numbers own : List ℕ) (bound : ℕ) → All (λ s. s < bound) numbers → ((i : ℕ) → i < length numbers → slice_index own i ≡ slice_index numbers i)
+      → (call : RackCall) → IsCallOrExtendBelow (length numbers) call → IsCallOrExtendBelow bound (call_below own call)
+  below numbers own bound low places (looks q) is = absurd is
+  below numbers own bound low places (blanks q) is = absurd is
+  below numbers own bound low places (calls q) is = number_below numbers own bound low places q is
+  below numbers own bound low places (extends q) is = number_below numbers own bound low places q is
+
+pub of_replacements : IsOfKind IsCallOrBlankBelow
+of_replacements = record { any = any_of_blank; below = below } where
+  below : (numbers own : List ℕ) (bound : ℕ) → All (λ s. s < bound) numbers → ((i : ℕ) → i < length numbers → slice_index own i ≡ slice_index numbers i)
+      → (call : RackCall) → IsCallOrBlankBelow (length numbers) call → IsCallOrBlankBelow bound (call_below own call)
+  below numbers own bound low places (looks q) is = absurd is
+  below numbers own bound low places (blanks q) is = number_below numbers own bound low places q is
+  below numbers own bound low places (calls q) is = number_below numbers own bound low places q is
+  below numbers own bound low places (extends q) is = absurd is
 
 -- a member of no such boundary isn't called
 among_not : (numbers : List ℕ) (p : ℕ) → ((x : ℕ) → x < length numbers → slice_index numbers x ≢ p / 2) → (call : RackCall) → IsCallAmong numbers call → IsNotOn p call
@@ -82,9 +111,9 @@ pub record Begins {R : Type 0} (numbers : List ℕ) (x : LiveRack R) : Type 0 wh
   pub places : (i : ℕ) → i < length numbers → slice_index (live_in x) i ≡ slice_index numbers i
 
 -- what calls on their members leave of the rack below, all of whose boundaries are below a number
-pub record Segment {R : Type 0} (rack : Ghosts R) (bound : ℕ) (x y : LiveRack R) : Type 0 where
+pub record Segment {R : Type 0} (rack : Ghosts R) (may : ℕ → RackCall → Type 0) (bound : ℕ) (x y : LiveRack R) : Type 0 where
   pub live_is : live_in y ≡ live_in x
-  pub made : Makes rack (IsAnyCallBelow bound) (rack_in x) (rack_in y)
+  pub made : Makes rack (may bound) (rack_in x) (rack_in y)
   pub tells : StillTold (rack.bytes (rack_in x)) (rack.bytes (rack_in y))
   pub calls : own_calls y ≡ own_calls x
   pub writes : own_writes y ≡ own_writes x
@@ -131,13 +160,15 @@ module _ {R : Type 0} (rack : Ghosts R) (none : (s : R) → rack.made s [] s) (b
         let after = law (rack_in x) (rack_in y) whole.calls whole.made in
         told_same _ _ (after.other_bytes p (each_such (IsCallAmong numbers) (IsNotOn p) (among_not numbers p absent) whole.calls whole.each)) told
 
-  pub segment : (numbers : List ℕ) (bound : ℕ) (x y : LiveRack R) → Begins numbers x → All (λ s. s < bound) numbers → Makes (live rack) (IsAnyCallBelow (length numbers)) x y
-      → StillTold ((live rack).bytes x) ((live rack).bytes y) → Segment rack bound x y
-  segment numbers bound x y begins low made tells =
-      let passed = passes_on rack (IsAnyCallBelow (length numbers)) (IsCallAmong numbers) x y (there numbers x begins) (among numbers x begins) made in
+  pub segment : (may : ℕ → RackCall → Type 0) → IsOfKind may → (numbers : List ℕ) (bound : ℕ) (x y : LiveRack R) → Begins numbers x → All (λ s. s < bound) numbers
+      → Makes (live rack) (may (length numbers)) x y → StillTold ((live rack).bytes x) ((live rack).bytes y) → Segment rack may bound x y
+  segment may kind numbers bound x y begins low made tells =
+      let here : (call : RackCall) → may (length numbers) call → is_passed (live_in x) call ≡ true = λ call is. there numbers x begins call (kind.any (length numbers) call is) in
+      let passed = passes_on rack (may (length numbers)) (IsCallAmong numbers) x y here (λ call is. among numbers x begins call (kind.any (length numbers) call is)) made in
+      let such = passes_on rack (may (length numbers)) (may bound) x y here (λ call is. kind.below numbers (live_in x) bound low begins.places call is) made in
       record {
         live_is = passed.live_is;
-        made = makes_such rack (IsCallAmong numbers) (IsAnyCallBelow bound) (among_below numbers bound low) (rack_in x) (rack_in y) passed.below;
+        made = such.below;
         tells = tells_below numbers x y begins passed.live_is passed.below tells;
         calls = passed.calls;
         writes = passed.writes;

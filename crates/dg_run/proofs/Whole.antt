@@ -7,16 +7,17 @@ use Rattle.dg_model.specs.Shapes.{IsShape}
 use Rattle.dg_model.specs.Moments.{HistoryOf, Moment}
 use Rattle.dg_model.specs.States.{Counts, State, plain_state}
 use Rattle.dg_io.specs.Makes.{Makes}
-use Rattle.dg_io.specs.MakesLaws.{makes_both}
+use Rattle.dg_io.specs.MakesLaws.{makes_both, makes_such}
 use Rattle.dg_io.specs.RackCalls.{RackCall}
 use Rattle.dg_io.specs.RackWords.{After}
 use Rattle.dg_io.specs.declared.outside.Rack.{Ghosts}
 use Rattle.dg_regroup.specs.declared.live_racks.LiveRack.{LiveRack}
 use Rattle.dg_run.proofs.Continuing.{others_counts, others_same}
-use Rattle.dg_run.proofs.Happening.{course_less, history_of, holds_in_use, weaker_runs}
+use Rattle.dg_run.proofs.Happening.{course_less, history_of, holds_in_use, makes_less, weaker_runs}
 use Rattle.dg_run.specs.Histories.{Continues, IsBlankReady, KnownBy, RunsBefore, VolumeRunsTo, below_of, boundaries_of, on_pairs, standing_of}
 use Rattle.dg_run.specs.Steps.{shape_of}
-use Rattle.dg_store.specs.Leaves.{IsCallBelow}
+use Rattle.dg_store.specs.Leaves.{IsAnyCallBelow, IsCallOrBlankBelow}
+use Rattle.dg_store.specs.ReadLaws.{any_of_blank}
 use Rattle.dg_model.specs.declared.shapes.Shape.{Shape}
 use Rattle.dg_model.specs.declared.events.Event.{Event}
 use Rattle.dg_model.specs.declared.events.Event.TheVariants.{Array as MakeArray}
@@ -175,9 +176,10 @@ module _ {R : Type 0} (ghosts : Ghosts R) (none : (s : R) → ghosts.made s [] s
     (shape : Shape) (first : ℕ) (rack : R) (a b : Array (LiveRack R)) (is : first ≡ length (line_of (MakeArray shape))) (well : IsShape shape)
     (blank : IsBlankReady ghosts shape rack a) (goes : Continues ghosts a b) where
   -- the calls from the first line on
-  pub made_all : Makes ghosts (IsCallBelow shape.b) rack (below_of b)
-  made_all = makes_both ghosts (IsCallBelow shape.b) rack (below_of a) (below_of b) blank.made
-      (subst (λ (n : ℕ). Makes ghosts (IsCallBelow n) (below_of a) (below_of b)) blank.boundaries goes.made)
+  pub made_all : Makes ghosts (IsAnyCallBelow shape.b) rack (below_of b)
+  made_all = makes_both ghosts (IsAnyCallBelow shape.b) rack (below_of a) (below_of b)
+      (makes_such ghosts (IsCallOrBlankBelow shape.b) (IsAnyCallBelow shape.b) (any_of_blank shape.b) rack (below_of a) blank.made)
+      (subst (λ (n : ℕ). Makes ghosts (IsAnyCallBelow n) (below_of a) (below_of b)) blank.boundaries goes.made)
 
   -- the members behind the first line's boundaries were left alone
   others_kept : OthersKept (boundaries_of b) (ghosts.counts rack) (ghosts.counts (below_of b)) (ghosts.bytes rack) (ghosts.bytes (below_of b))
@@ -206,7 +208,7 @@ module _ {R : Type 0} (ghosts : Ghosts R) (none : (s : R) → ghosts.made s [] s
       let W = runs nothing blank.state blank.stands in
       let start = standing_of a blank.state in (
         on_pairs ghosts W.0,
-        (on_pairs ghosts start, blank.makes, history_of ghosts none both law _ start events replies W.0 (course_less ghosts (told_in W.0.state W.1) start events replies W.0 W.2)),
+        (on_pairs ghosts start, makes_less (λ k. tt) blank.makes, history_of ghosts none both law _ start events replies W.0 (course_less ghosts (told_in W.0.state W.1) start events replies W.0 W.2)),
       )
 
   pub ran_of : (events : List Event) (replies : List Reply) → VolumeRunsTo ghosts a events replies b → All (IsInPlace (Some (shape_of a))) events → first + length (input_of events) ≤ 2 ^ 40
@@ -220,7 +222,7 @@ module _ {R : Type 0} (ghosts : Ghosts R) (none : (s : R) → ghosts.made s [] s
         in_place = all_in_place events placed;
         budget = all_in_budget events budget;
         final = on_pairs ghosts final;
-        history = (on_pairs ghosts start, blank.makes, history_of ghosts none both law _ start events replies final (course_less ghosts (told_in W.next line) start events replies final W.course));
+        history = (on_pairs ghosts start, makes_less (λ k. tt) blank.makes, history_of ghosts none both law _ start events replies final (course_less ghosts (told_in W.next line) start events replies final W.course));
         holds = λ told. holds_in_use ghosts none both law b W.next goes.ready W.stands (let k = told_in W.next line told in (k.0, W.known k.0 k.1));
         others = subst (λ (n : ℕ). OthersKept n (ghosts.counts rack) (ghosts.counts (below_of b)) (ghosts.bytes rack) (ghosts.bytes (below_of b))) (sym line) others_kept;
         counts = refl;

@@ -1,6 +1,7 @@
 -- An array of the boundaries in use beside the model's moments: the state that it is in, and the rack that these boundaries stand on.
 use Rattle.std.specs.Prelude.{◌≡◌, ◌⊎◌, ◌<◌, ◌≤◌, ◌/◌, ◌∷◌, [], ℕ, false, List, Option, length, slice_index}
 use Rattle.dg_io.specs.Makes.{Makes}
+use Rattle.dg_io.specs.RackCalls.{RackCall}
 use Rattle.dg_io.specs.Told.{StillTold, Told, Took, TookPart}
 use Rattle.dg_io.specs.declared.outside.Rack.{Ghosts}
 use Rattle.dg_model.specs.Lives.{all_live}
@@ -18,7 +19,7 @@ use Rattle.dg_regroup.specs.declared.live_racks.LiveRack.{LiveRack}
 use Rattle.dg_run.specs.Courses.{Course, Standing}
 use Rattle.dg_run.specs.Steps.{BeginsLines, IsSound, NotesFile, StandsIn, rack_of, shape_of}
 use Rattle.dg_run.specs.declared.arrays.Array.{Array}
-use Rattle.dg_store.specs.Leaves.{IsCallBelow}
+use Rattle.dg_store.specs.Leaves.{IsAnyCallBelow, IsCallOrBlankBelow}
 use Rattle.dg_text.specs.Replies.{reply_line}
 use Rattle.dg_volume.specs.Origins.{Origin, WasHeld}
 use Rattle.dg_volume.specs.Origins.Origin.{nothing}
@@ -57,14 +58,18 @@ pub record IsReady {R : Type 0} (rack : Ghosts R) (array : Array (LiveRack R)) :
   pub calls : own_calls (rack_of array) ≡ 0
   pub writes : own_writes (rack_of array) ≡ 0
 
--- What any event leaves of it: an array of the same first line, ready for the next one. On the rack below calls were made on members of that line's
--- boundaries alone, none of which looks for one; and what that tells it told before.
-pub record Continues {R : Type 0} (rack : Ghosts R) (old new : Array (LiveRack R)) : Type 0 where
+-- What an event leaves of it: an array of the same first line, ready for the next one. On the rack below such calls were made, on members of that
+-- line's boundaries alone; and what that tells it told before.
+pub record ContinuesBy {R : Type 0} (rack : Ghosts R) (may : ℕ → RackCall → Type 0) (old new : Array (LiveRack R)) : Type 0 where
   pub ready : IsReady rack new
   pub line : volumes.line_of new.volume ≡ volumes.line_of old.volume
   pub boundaries : boundaries_of new ≡ boundaries_of old
-  pub made : Makes rack (IsCallBelow (boundaries_of old)) (below_of old) (below_of new)
+  pub made : Makes rack (may (boundaries_of old)) (below_of old) (below_of new)
   pub tells : StillTold (rack.bytes (below_of old)) (rack.bytes (below_of new))
+
+-- what any event leaves of it: no call looks for a member
+abbrev pub Continues : {R : Type 0} → Ghosts R → Array (LiveRack R) → Array (LiveRack R) → Type 0
+Continues rack old new = ContinuesBy rack IsAnyCallBelow old new
 
 -- ---- moments
 
@@ -143,8 +148,8 @@ pub record IsBlankReady {R : Type 0} (rack : Ghosts R) (shape : Shape) (before :
   pub ready : IsReady rack array
   pub shape_is : shape_of array ≡ shape
   pub boundaries : boundaries_of array ≡ shape.b
-  pub made : Makes rack (IsCallBelow shape.b) before (below_of array)
+  pub made : Makes rack (IsCallOrBlankBelow shape.b) before (below_of array)
   pub tells : StillTold (rack.bytes before) (rack.bytes (below_of array))
   pub state : State
-  pub makes : MakesArray plain (MakeArray shape) shape (rack.counts before) (on_pairs rack (standing_of array state))
+  pub makes : MakesArray (Unit {0}) plain (MakeArray shape) shape (rack.counts before) (on_pairs rack (standing_of array state))
   pub stands : StandsIn (live rack) (WasHeld (live rack) nothing) array state
