@@ -5,10 +5,8 @@ use Rattle.dg_model.specs.declared.events.Event.{Event}
 use Rattle.dg_model.specs.declared.replies.Reply.{Reply}
 use Rattle.dg_io.specs.Told.{Told, Took, TookPart}
 use Rattle.dg_io.specs.declared.outside.Rack.{Ghosts}
-use Rattle.dg_run.specs.declared.arrays.Array.{Array}
 use Rattle.dg_text.specs.Replies.{reply_line}
-use Rattle.dg_regroup.specs.declared.live_racks.LiveRack.{LiveRack}
-use Rattle.dg_run.specs.Histories.{EventAnswered, EventCut, RunsTo, VolumeRunsTo}
+use Rattle.dg_run.specs.Histories.{EventAnswered, EventCut, RunsTo, VolumeRunsTo, Running}
 use Rattle.dg_run.specs.Steps.{Answered, AnsweredPart, StepsTo, VolumeStepsTo}
 
 -- a step was made, and where its reply was written, the event is answered
@@ -24,12 +22,12 @@ answered_part rack event reply taken given old new (Ok done) steps told = tt
 answered_part rack event reply taken given old new (Err failed) steps told = record { reply = reply; steps = steps; output = told }
 
 -- the same of an array of the boundaries in use
-pub event_done_by : {R T E : Type 0} (rack : Ghosts R) (event : Event) (reply : Reply) (taken given : Option (List ℕ)) (old new : Array (LiveRack R)) (result : Result T E)
+pub event_done_by : {R T E : Type 0} (rack : Ghosts R) (event : Event) (reply : Reply) (taken given : Option (List ℕ)) (old new : Running R) (result : Result T E)
     → RunsTo rack old (event ∷ []) (reply ∷ []) new → OnOk result (Told (Took (reply_line reply)) taken given) → OnOk result (EventAnswered rack event taken given old new)
 event_done_by rack event reply taken given old new (Ok done) runs told = record { reply = reply; runs = runs; output = told }
 event_done_by rack event reply taken given old new (Err failed) runs told = tt
 
-pub event_part_by : {R T E : Type 0} (rack : Ghosts R) (event : Event) (reply : Reply) (taken given : Option (List ℕ)) (old new : Array (LiveRack R)) (result : Result T E)
+pub event_part_by : {R T E : Type 0} (rack : Ghosts R) (event : Event) (reply : Reply) (taken given : Option (List ℕ)) (old new : Running R) (result : Result T E)
     → VolumeRunsTo rack old (event ∷ []) (reply ∷ []) new → OnErr result (Told (TookPart (reply_line reply)) taken given) → OnErr result (EventCut rack event taken given old new)
 event_part_by rack event reply taken given old new (Ok done) runs told = tt
 event_part_by rack event reply taken given old new (Err failed) runs told = record { reply = reply; runs = runs; output = told }

@@ -1,5 +1,6 @@
 -- An array makes a step where its volume does.
-use Rattle.std.proofs.Common.{◌≡◌, ◌⊎◌, ◌∙◌, ◌<◌, ℕ, List, ap, inl, inr, length, refl, sym, subst}
+use Rattle.std.proofs.Common.{◌≡◌, ◌⊎◌, ◌∙◌, ℕ, List, ap, inl, inr, length, refl, sym, subst}
+use Rattle.std.specs.Prelude.{Option, Some, None}
 use Rattle.dg_io.specs.declared.outside.Rack.{Ghosts}
 use Rattle.dg_model.proofs.StepLaws.{StaysInUse, step_keeps}
 use Rattle.dg_model.specs.Marks.{marked}
@@ -8,14 +9,20 @@ use Rattle.dg_model.specs.Steps.{Step}
 use Rattle.dg_model.specs.declared.events.Event.{Event}
 use Rattle.dg_model.specs.declared.events.Event.TheVariants.{DropDisk, MendDisk, Pending, Save}
 use Rattle.dg_model.specs.declared.replies.Reply.{Reply}
-use Rattle.dg_model.specs.declared.replies.Reply.TheVariants.{Blocks, Lost, NotParity, NotSaved, Saved}
+use Rattle.dg_model.specs.declared.replies.Reply.TheVariants.{Blocks, NotParity}
 use Rattle.dg_model.specs.declared.shapes.Shape.{Shape}
-use Rattle.dg_run.specs.Plain.{IsOfPairs, IsReduced}
-use Rattle.dg_run.specs.Steps.{Known, StandsIn, StepsTo, VolumeStepsTo}
+use Rattle.dg_run.proofs.Runs.{goes_none}
+use Rattle.dg_run.specs.Plain.{IsOfPairs}
+use Rattle.dg_run.specs.Steps.{GoesSaved, IsSound, Known, StandsIn, StepsTo, VolumeStepsTo, rack_of}
 use Rattle.dg_run.specs.declared.arrays.Array.{Array}
+use Rattle.dg_store.specs.Leaves.{IsCallOrExtendBelow}
+use Rattle.dg_volume.specs.Commits.{CannotSave, KeepsBy, KeepsSaved, checkpoint_reply}
 use Rattle.dg_volume.specs.Copies.{StepsHot}
-use Rattle.dg_volume.specs.Volumes.{any_phase, marks_of}
+use Rattle.dg_volume.specs.HeldLaws.{leaves_or_extend}
+use Rattle.dg_volume.specs.Volumes.{LeavesBy, any_phase, marks_of}
 use Rattle.dg_volume.specs.Volumes as volumes
+use Rattle.dg_volume.specs.declared.commits.CheckpointAnswer.{CheckpointAnswer}
+use Rattle.dg_volume.specs.declared.commits.CheckpointAnswer.TheVariants.{Lost as LosesSave, NotSaved as RefusesSave, Saved as KeepsSave}
 
 module _ {R : Type 0} (rack : Ghosts R) where
   -- what a step of its volume leads to
@@ -68,24 +75,37 @@ module _ {R : Type 0} (rack : Ghosts R) where
       let one = steps origin state st in
       (one.0, one.1.volume, one.2)
 
-  -- the array isn't saved while a boundary isn't in use, and nothing is done
-  pub not_saved_steps : (a : Array R) → IsReduced a → StepsTo rack a Save NotSaved a
-  not_saved_steps a less origin state st = (state, st, (subst (λ (s : State). length s.live < s.boundaries) (sym st.volume.is) less, refl))
-
   -- there is no disk to take out or to mend, and nothing is done
   pub disk_steps : (a : Array R) (event : Event) → ((s : ℕ) × (j : ℕ) × (event ≡ DropDisk s j)) ⊎ ((s : ℕ) × (j : ℕ) × (event ≡ MendDisk s j)) → StepsTo rack a event NotParity a
   disk_steps a event (inl drop) = subst (λ (e : Event). StepsTo rack a e NotParity a) (sym drop.2) (λ origin state st. (state, st, refl))
   disk_steps a event (inr mend) = subst (λ (e : Event). StepsTo rack a e NotParity a) (sym mend.2) (λ origin state st. (state, st, refl))
 
-  pub disk_pairs : (a : Array R) (event : Event) → ((s : ℕ) × (j : ℕ) × (event ≡ DropDisk s j)) ⊎ ((s : ℕ) × (j : ℕ) × (event ≡ MendDisk s j)) → IsOfPairs a event NotParity
-  disk_pairs a event (inl drop) = subst (λ (e : Event). IsOfPairs a e NotParity) (sym drop.2) refl
-  disk_pairs a event (inr mend) = subst (λ (e : Event). IsOfPairs a e NotParity) (sym mend.2) refl
+  pub disk_pairs : (a : Array R) (event : Event) → ((s : ℕ) × (j : ℕ) × (event ≡ DropDisk s j)) ⊎ ((s : ℕ) × (j : ℕ) × (event ≡ MendDisk s j)) → (room : Option ℕ)
+      → IsOfPairs a event NotParity room
+  disk_pairs a event (inl drop) room = subst (λ (e : Event). IsOfPairs a e NotParity room) (sym drop.2) refl
+  disk_pairs a event (inr mend) room = subst (λ (e : Event). IsOfPairs a e NotParity room) (sym mend.2) refl
 
-  -- a reply to a save of an array all of whose boundaries are in use
-  pub saved_pairs : (a : Array R) → (IsReduced a → ⊥) → (reply : Reply) → IsOfPairs a Save reply
-  saved_pairs a whole (Saved q) = whole
-  saved_pairs a whole (Lost s) = whole
-  saved_pairs a whole reply = tt
+  -- the reply to a save, with which the rack may make a checkpoint
+  pub kept_pairs : (room : R → Option ℕ) (a : Array R) (answer : CheckpointAnswer) → (answer ≡ RefusesSave → CannotSave room a.volume) → (CannotSave room a.volume → answer ≡ RefusesSave)
+      → IsOfPairs a Save (checkpoint_reply answer) (room (rack_of a))
+  kept_pairs room a answer only must = by answer (room (rack_of a)) refl only must where
+    by : (given : CheckpointAnswer) (here : Option ℕ) → room (rack_of a) ≡ here → (given ≡ RefusesSave → CannotSave room a.volume) → (CannotSave room a.volume → given ≡ RefusesSave)
+        → IsOfPairs a Save (checkpoint_reply given) here
+    by (KeepsSave q) None is refused must = λ less. absurd (cc (must (record { plain = is; reduced = less })))
+    by (KeepsSave q) (Some n) is refused must = tt
+    by (LosesSave s) None is refused must = λ less. absurd (cc (must (record { plain = is; reduced = less })))
+    by (LosesSave s) (Some n) is refused must = tt
+    by RefusesSave None is refused must = tt
+    by RefusesSave (Some n) is refused must = absurd (cc (sym is ∙ (refused refl).plain))
+
+  -- what it leaves
+  pub kept_by : (room : R → Option ℕ) (commits : R → R → Type 0) (a b : Array R) (answer : CheckpointAnswer) → IsSound rack a
+      → KeepsBy any_phase rack room commits a.volume b.volume answer → GoesSaved rack a b ⊎ KeepsSaved any_phase rack room commits a.volume b.volume
+  kept_by room commits a b (KeepsSave q) sound kept = inr kept.0
+  kept_by room commits a b (LosesSave s) sound (inl leaves) = inl leaves
+  kept_by room commits a b (LosesSave s) sound (inr kept) = inr kept.0
+  kept_by room commits a b RefusesSave sound same =
+      inl (subst (λ v. LeavesBy any_phase any_phase rack IsCallOrExtendBelow a.volume v) (sym same) (leaves_or_extend any_phase any_phase rack a.volume a.volume (goes_none rack a sound)))
 
   -- the pending blocks are told, and nothing is done
   pub pending_steps : (a : Array R) → StepsTo rack a Pending (Blocks (marked (marks_of any_phase a.volume))) a

@@ -9,9 +9,8 @@ use Rattle.dg_io.specs.declared.outside.Rack.{Ghosts}
 use Rattle.dg_io.specs.Told.{Told, Took, TookPart}
 use Rattle.dg_model.specs.declared.shapes.Shape.{Shape}
 use Rattle.dg_model.specs.declared.events.Event.{Event}
-use Rattle.dg_run.specs.declared.arrays.Array.{Array}
-use Rattle.dg_run.specs.Histories.{EventDone, EventListed, EventWanted, TellsLine, boundaries_of}
-use Rattle.dg_regroup.specs.declared.live_racks.LiveRack.{LiveRack}
+use Rattle.dg_stop.specs.StopRacks.{stop_words}
+use Rattle.dg_run.specs.Histories.{EventDone, EventListed, EventWanted, TellsLine, boundaries_of, Running}
 use Rattle.dg_text.specs.Lines.{line_of, input_of, longest, IsInPlace}
 use Rattle.dg_text.specs.Replies.{output_of, reply_line}
 use Rattle.dg_text.specs.ToldSteps.{took_both}
@@ -56,7 +55,7 @@ starts_more shape es e x y z first second = Told-then (BeginsAll shape es) (Star
     }) x y z first second
 
 module _ {R : Type 0} (rack : Ghosts R) where
-  broke_off : (shape : Shape) (first from passed number : ℕ) (x y z t u : Option (List ℕ)) (a b : Array (LiveRack R)) → passed ≤ 2 ^ 40 → SoFar rack shape first from passed number x y t u a b
+  broke_off : (shape : Shape) (first from passed number : ℕ) (x y z t u : Option (List ℕ)) (a b : Running R) → passed ≤ 2 ^ 40 → SoFar rack shape first from passed number x y t u a b
       → Told (GaveLines []) y z → LinesBrokeOff rack [] shape first x z t u a b
   broke_off shape first from passed number x y z t u a b budget was told = record {
     events = was.events;
@@ -69,14 +68,14 @@ module _ {R : Type 0} (rack : Ghosts R) where
     output = was.served.output;
   }
 
-  pub lines_broke_off : (shape : Shape) (first from passed number : ℕ) (x y z t u v : Option (List ℕ)) (a b c : Array (LiveRack R)) → passed ≤ 2 ^ 40 → SoFar rack shape first from passed number x y t u a b
+  pub lines_broke_off : (shape : Shape) (first from passed number : ℕ) (x y z t u v : Option (List ℕ)) (a b c : Running R) → passed ≤ 2 ^ 40 → SoFar rack shape first from passed number x y t u a b
       → Told (GaveLines []) y z → v ≡ u → c ≡ b → LinesBrokeOff rack [] shape first x z t v a c
   lines_broke_off shape first from passed number x y z t u v a b c budget was told same kept =
       subst (λ (o : Option (List ℕ)). LinesBrokeOff rack [] shape first x z t o a c) (sym same)
-      (subst (λ (s : Array (LiveRack R)). LinesBrokeOff rack [] shape first x z t u a s) (sym kept) (broke_off shape first from passed number x y z t u a b budget was told))
+      (subst (λ (s : Running R). LinesBrokeOff rack [] shape first x z t u a s) (sym kept) (broke_off shape first from passed number x y z t u a b budget was told))
 
-  pub lines_cut : (shape : Shape) (first from passed number : ℕ) (x y z t u v : Option (List ℕ)) (a b c : Array (LiveRack R)) → passed ≤ 2 ^ 40 → SoFar rack shape first from passed number x y t u a b
-      → ServedLinePart rack shape (2 ^ 40 - passed) y z u v b c → (TellsLine rack c → TellsLine rack b) → LinesCut rack [] shape first x z t v a c
+  pub lines_cut : (shape : Shape) (first from passed number : ℕ) (x y z t u v : Option (List ℕ)) (a b c : Running R) → passed ≤ 2 ^ 40 → SoFar rack shape first from passed number x y t u a b
+      → ServedLinePart rack shape (2 ^ 40 - passed) y z u v b c → (TellsLine (stop_words rack) c → TellsLine (stop_words rack) b) → LinesCut rack [] shape first x z t v a c
   lines_cut shape first from passed number x y z t u v a b c budget was line told =
       let es = was.events in
       let e = line.event in
@@ -96,8 +95,8 @@ module _ {R : Type 0} (rack : Ghosts R) where
             t u v was.served.output line.answered.output;
       }
 
-  lines_ran_out : (shape : Shape) (first from passed number : ℕ) (x y z t u v : Option (List ℕ)) (a b c : Array (LiveRack R)) → passed ≤ 2 ^ 40 → SoFar rack shape first from passed number x y t u a b
-      → Told (AwaitsLine (longest (Some shape)) (2 ^ 40 - passed)) y z → v ≡ u → boundaries_of c ≡ boundaries_of b → (TellsLine rack c → TellsLine rack b)
+  lines_ran_out : (shape : Shape) (first from passed number : ℕ) (x y z t u v : Option (List ℕ)) (a b c : Running R) → passed ≤ 2 ^ 40 → SoFar rack shape first from passed number x y t u a b
+      → Told (AwaitsLine (longest (Some shape)) (2 ^ 40 - passed)) y z → v ≡ u → boundaries_of c ≡ boundaries_of b → (TellsLine (stop_words rack) c → TellsLine (stop_words rack) b)
       → LinesWanted rack [] shape first x z t v a c
   lines_ran_out shape first from passed number x y z t u v a b c budget was told kept same tells = record {
     events = was.events;
@@ -111,8 +110,8 @@ module _ {R : Type 0} (rack : Ghosts R) where
   }
 
   -- the reply of the last line was written whole
-  ran_out_behind_reply : (shape : Shape) (first from passed number : ℕ) (x y z t u v : Option (List ℕ)) (a b c : Array (LiveRack R)) → passed ≤ 2 ^ 40 → SoFar rack shape first from passed number x y t u a b
-      → (line : WantedLine rack shape (2 ^ 40 - passed) y z u v b c) → EventDone rack line.event u v b c → (TellsLine rack c → TellsLine rack b)
+  ran_out_behind_reply : (shape : Shape) (first from passed number : ℕ) (x y z t u v : Option (List ℕ)) (a b c : Running R) → passed ≤ 2 ^ 40 → SoFar rack shape first from passed number x y t u a b
+      → (line : WantedLine rack shape (2 ^ 40 - passed) y z u v b c) → EventDone rack line.event u v b c → (TellsLine (stop_words rack) c → TellsLine (stop_words rack) b)
       → LinesDone rack [] shape first x z t v a c
   ran_out_behind_reply shape first from passed number x y z t u v a b c budget was line answered told =
       let es = was.events in
@@ -133,8 +132,8 @@ module _ {R : Type 0} (rack : Ghosts R) where
       }
 
   -- of the listing that the last line asks for the first lines were written
-  ran_out_in_listing : (shape : Shape) (first from passed number : ℕ) (x y z t u v : Option (List ℕ)) (a b c : Array (LiveRack R)) → passed ≤ 2 ^ 40 → SoFar rack shape first from passed number x y t u a b
-      → (line : WantedLine rack shape (2 ^ 40 - passed) y z u v b c) → EventListed rack line.event u v b c → (TellsLine rack c → TellsLine rack b)
+  ran_out_in_listing : (shape : Shape) (first from passed number : ℕ) (x y z t u v : Option (List ℕ)) (a b c : Running R) → passed ≤ 2 ^ 40 → SoFar rack shape first from passed number x y t u a b
+      → (line : WantedLine rack shape (2 ^ 40 - passed) y z u v b c) → EventListed rack line.event u v b c → (TellsLine (stop_words rack) c → TellsLine (stop_words rack) b)
       → LinesListed rack [] shape first x z t v a c
   ran_out_in_listing shape first from passed number x y z t u v a b c budget was line listed told =
       let es = was.events in
@@ -156,23 +155,23 @@ module _ {R : Type 0} (rack : Ghosts R) where
         output = took_both (output_of rs) listed.text t u v was.served.output listed.output;
       }
 
-  ran_out_by : (shape : Shape) (first from passed number : ℕ) (x y z t u v : Option (List ℕ)) (a b c : Array (LiveRack R)) → passed ≤ 2 ^ 40 → SoFar rack shape first from passed number x y t u a b
+  ran_out_by : (shape : Shape) (first from passed number : ℕ) (x y z t u v : Option (List ℕ)) (a b c : Running R) → passed ≤ 2 ^ 40 → SoFar rack shape first from passed number x y t u a b
       → (line : WantedLine rack shape (2 ^ 40 - passed) y z u v b c) → EventDone rack line.event u v b c ⊎ EventListed rack line.event u v b c
-      → (TellsLine rack c → TellsLine rack b) → LinesRanOut rack [] shape first x z t v a c
+      → (TellsLine (stop_words rack) c → TellsLine (stop_words rack) b) → LinesRanOut rack [] shape first x z t v a c
   ran_out_by shape first from passed number x y z t u v a b c budget was line (inl answered) told =
       inr (inl (ran_out_behind_reply shape first from passed number x y z t u v a b c budget was line answered told))
   ran_out_by shape first from passed number x y z t u v a b c budget was line (inr listed) told =
       inr (inr (ran_out_in_listing shape first from passed number x y z t u v a b c budget was line listed told))
 
-  pub lines_ran_out_at : (shape : Shape) (first from passed number : ℕ) (x y z t u v : Option (List ℕ)) (a b c : Array (LiveRack R)) → passed ≤ 2 ^ 40 → SoFar rack shape first from passed number x y t u a b
-      → RanOutAt rack shape (2 ^ 40 - passed) y z u v b c → boundaries_of c ≡ boundaries_of b → (TellsLine rack c → TellsLine rack b) → LinesRanOut rack [] shape first x z t v a c
+  pub lines_ran_out_at : (shape : Shape) (first from passed number : ℕ) (x y z t u v : Option (List ℕ)) (a b c : Running R) → passed ≤ 2 ^ 40 → SoFar rack shape first from passed number x y t u a b
+      → RanOutAt rack shape (2 ^ 40 - passed) y z u v b c → boundaries_of c ≡ boundaries_of b → (TellsLine (stop_words rack) c → TellsLine (stop_words rack) b) → LinesRanOut rack [] shape first x z t v a c
   lines_ran_out_at shape first from passed number x y z t u v a b c budget was (inl none) same told =
       inl (lines_ran_out shape first from passed number x y z t u v a b c budget was none.0 none.1 same told)
   lines_ran_out_at shape first from passed number x y z t u v a b c budget was (inr line) same told =
       ran_out_by shape first from passed number x y z t u v a b c budget was line line.answered told
 
   -- memory was wanting for the event of a line that was taken
-  pub ran_out_of : (shape : Shape) (room : ℕ) (event : Event) (unread : List ℕ) (left rest taken given : Option (List ℕ)) (old now : Array (LiveRack R)) → IsInPlace (Some shape) event
+  pub ran_out_of : (shape : Shape) (room : ℕ) (event : Event) (unread : List ℕ) (left rest taken given : Option (List ℕ)) (old now : Running R) → IsInPlace (Some shape) event
       → length (line_of event) ≤ room → Told (Begins (Some shape) event) left (option_map (λ more. unread ++ more) rest)
       → Told (BeginsWithLine (longest (Some shape)) room) left (option_map (λ more. unread ++ more) rest) → EventWanted rack event taken given old now
       → RanOutAt rack shape room left rest taken given old now
@@ -187,7 +186,7 @@ module _ {R : Type 0} (rack : Ghosts R) where
 
   -- ---- behind what was written before
 
-  pub broke_off_behind : (front : List ℕ) (shape : Shape) (first : ℕ) (x z t m v : Option (List ℕ)) (a b : Array (LiveRack R)) → Told (Took front) t m → LinesBrokeOff rack [] shape first x z m v a b → LinesBrokeOff rack front shape first x z t v a b
+  pub broke_off_behind : (front : List ℕ) (shape : Shape) (first : ℕ) (x z t m v : Option (List ℕ)) (a b : Running R) → Told (Took front) t m → LinesBrokeOff rack [] shape first x z m v a b → LinesBrokeOff rack front shape first x z t v a b
   broke_off_behind front shape first x z t m v a b wrote lines = record {
     events = lines.events;
     replies = lines.replies;
@@ -199,7 +198,7 @@ module _ {R : Type 0} (rack : Ghosts R) where
         (λ p q o f s. s ∙ ap (λ (l : List ℕ). l ++ output_of lines.replies) f ∙ append_assoc p front (output_of lines.replies)) t m v wrote lines.output;
   }
 
-  pub cut_behind : (front : List ℕ) (shape : Shape) (first : ℕ) (x z t m v : Option (List ℕ)) (a b : Array (LiveRack R)) → Told (Took front) t m → LinesCut rack [] shape first x z m v a b → LinesCut rack front shape first x z t v a b
+  pub cut_behind : (front : List ℕ) (shape : Shape) (first : ℕ) (x z t m v : Option (List ℕ)) (a b : Running R) → Told (Took front) t m → LinesCut rack [] shape first x z m v a b → LinesCut rack front shape first x z t v a b
   cut_behind front shape first x z t m v a b wrote lines =
       let out = output_of lines.replies in
       record {
@@ -218,7 +217,7 @@ module _ {R : Type 0} (rack : Ghosts R) where
             }) t m v wrote lines.output;
       }
 
-  wanted_behind : (front : List ℕ) (shape : Shape) (first : ℕ) (x z t m v : Option (List ℕ)) (a b : Array (LiveRack R)) → Told (Took front) t m → LinesWanted rack [] shape first x z m v a b → LinesWanted rack front shape first x z t v a b
+  wanted_behind : (front : List ℕ) (shape : Shape) (first : ℕ) (x z t m v : Option (List ℕ)) (a b : Running R) → Told (Took front) t m → LinesWanted rack [] shape first x z m v a b → LinesWanted rack front shape first x z t v a b
   wanted_behind front shape first x z t m v a b wrote lines = record {
     events = lines.events;
     replies = lines.replies;
@@ -229,7 +228,7 @@ module _ {R : Type 0} (rack : Ghosts R) where
     output = took_both front (output_of lines.replies) t m v wrote lines.output;
   }
 
-  done_behind : (front : List ℕ) (shape : Shape) (first : ℕ) (x z t m v : Option (List ℕ)) (a b : Array (LiveRack R)) → Told (Took front) t m → LinesDone rack [] shape first x z m v a b → LinesDone rack front shape first x z t v a b
+  done_behind : (front : List ℕ) (shape : Shape) (first : ℕ) (x z t m v : Option (List ℕ)) (a b : Running R) → Told (Took front) t m → LinesDone rack [] shape first x z m v a b → LinesDone rack front shape first x z t v a b
   done_behind front shape first x z t m v a b wrote lines = record {
     events = lines.events;
     last = lines.last;
@@ -242,7 +241,7 @@ module _ {R : Type 0} (rack : Ghosts R) where
     output = took_both front (output_of lines.replies) t m v wrote lines.output;
   }
 
-  listed_behind : (front : List ℕ) (shape : Shape) (first : ℕ) (x z t m v : Option (List ℕ)) (a b : Array (LiveRack R)) → Told (Took front) t m → LinesListed rack [] shape first x z m v a b → LinesListed rack front shape first x z t v a b
+  listed_behind : (front : List ℕ) (shape : Shape) (first : ℕ) (x z t m v : Option (List ℕ)) (a b : Running R) → Told (Took front) t m → LinesListed rack [] shape first x z m v a b → LinesListed rack front shape first x z t v a b
   listed_behind front shape first x z t m v a b wrote lines = record {
     events = lines.events;
     replies = lines.replies;
@@ -257,7 +256,7 @@ module _ {R : Type 0} (rack : Ghosts R) where
     output = took_both front (output_of lines.replies ++ lines.text) t m v wrote lines.output;
   }
 
-  pub ran_out_behind : (front : List ℕ) (shape : Shape) (first : ℕ) (x z t m v : Option (List ℕ)) (a b : Array (LiveRack R)) → Told (Took front) t m → LinesRanOut rack [] shape first x z m v a b → LinesRanOut rack front shape first x z t v a b
+  pub ran_out_behind : (front : List ℕ) (shape : Shape) (first : ℕ) (x z t m v : Option (List ℕ)) (a b : Running R) → Told (Took front) t m → LinesRanOut rack [] shape first x z m v a b → LinesRanOut rack front shape first x z t v a b
   ran_out_behind front shape first x z t m v a b wrote (inl lines) = inl (wanted_behind front shape first x z t m v a b wrote lines)
   ran_out_behind front shape first x z t m v a b wrote (inr (inl lines)) = inr (inl (done_behind front shape first x z t m v a b wrote lines))
   ran_out_behind front shape first x z t m v a b wrote (inr (inr lines)) = inr (inr (listed_behind front shape first x z t m v a b wrote lines))

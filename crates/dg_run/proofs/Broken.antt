@@ -7,7 +7,6 @@ use Rattle.dg_io.specs.Told.{AreAny, Told, Took, TookPart}
 use Rattle.dg_io.specs.declared.outside.Rack.{Ghosts}
 use Rattle.dg_io.specs.RackCalls.{RackCall}
 use Rattle.dg_io.specs.RackWords.{After}
-use Rattle.dg_regroup.specs.declared.live_racks.LiveRack.{LiveRack}
 use Rattle.dg_model.specs.Moments.{HistoryOf, Moment}
 use Rattle.dg_model.specs.Shapes.{IsShape}
 use Rattle.dg_model.specs.States.{Counts}
@@ -24,7 +23,9 @@ use Rattle.dg_run.specs.Endings.{GaveLines, LinesBrokeOff, LinesCut, LinesDone, 
 use Rattle.dg_run.specs.Events.{Begins}
 use Rattle.dg_run.specs.Inputs.{AwaitsLine, BeginsWithLine}
 use Rattle.dg_run.specs.Replays.{BrokeOff, BrokeOffBy, CutRefusalBy, CutReplyBy, IsCutBy, RanOut, RanOutBefore, RanOutBehind, RanOutWithin, StopsAt, TellsBoundaries, WantsFirst, shape_after}
-use Rattle.dg_run.specs.Histories.{Continues, IsBlankReady, RunsBefore, VolumeRunsTo, below_of}
+use Rattle.dg_run.specs.Histories.{Continues, IsBlankReady, Running, RunsBefore, VolumeRunsTo, below_of}
+use Rattle.dg_stop.specs.StopCalls.{behind}
+use Rattle.dg_stop.specs.declared.stop_racks.StopRack.TheVariants.{Plain}
 use Rattle.dg_run.specs.Steps.{shape_of}
 use Rattle.dg_run.proofs.Happening.{weaker_runs}
 use Rattle.dg_run.proofs.Runs.{no_runs}
@@ -85,14 +86,14 @@ broke_off_first now bytes tells x z t v told same = record {
 -- ---- behind a first line that made an array
 
 -- Behind such a line there is a history of a run, whatever the array stands for now.
-pub record WasLed {R : Type 0} (ghosts : Ghosts R) (before : Counts) (tells : ℕ → Type 0) (make : Event) (a b : Array (LiveRack R)) : Type 0 where
+pub record WasLed {R : Type 0} (ghosts : Ghosts R) (before : Counts) (tells : ℕ → Type 0) (make : Event) (a b : Running R) : Type 0 where
   pub in_place : (events : List Event) → All (IsInPlace (Some (shape_of a))) events → AreInPlace (make ∷ events)
   pub led : (events : List Event) (replies : List Reply) → RunsBefore ghosts a events replies b
       → (final : Moment) × HistoryOf (TellsBoundaries tells final.state) before (make ∷ events) (Done ∷ replies) final
 
 module _ {R : Type 0} (ghosts : Ghosts R) (none : (s : R) → ghosts.made s [] s)
     (both : (a b c : R) (x y : List RackCall) → ghosts.made a x b → ghosts.made b y c → ghosts.made a (x ++ y) c) (law : (a b : R) (made : List RackCall) → ghosts.made a made b → After ghosts made a b)
-    (Means : List Event → List Reply → Type 0) (make : Event) (shape : Shape) (first : ℕ) (a b : Array (LiveRack R)) (m : Meant ghosts Means make shape first a b) where
+    (Means : List Event → List Reply → Type 0) (make : Event) (shape : Shape) (first : ℕ) (a b : Running R) (m : Meant ghosts Means make shape first a b) where
   pub array_broke_off : (text left rest taken given : Option (List ℕ)) → Told (Begins None make) text left → LinesBrokeOff ghosts (reply_line Done) (shape_of a) first left rest taken given a b
       → BrokeOffBy Means text rest taken given
   array_broke_off text left rest taken given line lines = record {
@@ -108,7 +109,7 @@ module _ {R : Type 0} (ghosts : Ghosts R) (none : (s : R) → ghosts.made s [] s
   }
 
   still_runs : b ≡ a → VolumeRunsTo ghosts a [] [] b
-  still_runs same = subst (λ (s : Array (LiveRack R)). VolumeRunsTo ghosts a [] [] s) (sym same) (weaker_runs ghosts none both law a a [] [] (no_runs ghosts a))
+  still_runs same = subst (λ (s : Running R). VolumeRunsTo ghosts a [] [] s) (sym same) (weaker_runs ghosts none both law a a [] [] (no_runs ghosts a))
 
   first_cut : (text left rest taken given : Option (List ℕ)) → first ≤ 2 ^ 40 → Told (Begins None make) text left → Told (TookPart (reply_line Done)) taken given → b ≡ a → Told AreAny left rest
       → CutReplyBy Means text rest taken given
@@ -244,9 +245,9 @@ module _ {R : Type 0} (ghosts : Ghosts R) (none : (s : R) → ghosts.made s [] s
 -- an array of mirrored pairs
 module _ {R : Type 0} (ghosts : Ghosts R) (none : (s : R) → ghosts.made s [] s)
     (both : (a b c : R) (x y : List RackCall) → ghosts.made a x b → ghosts.made b y c → ghosts.made a (x ++ y) c) (law : (a b : R) (made : List RackCall) → ghosts.made a made b → After ghosts made a b)
-    (shape : Shape) (first : ℕ) (rack : R) (a b : Array (LiveRack R)) (is : first ≡ length (line_of (MakeArray shape))) (well : IsShape shape)
-    (blank : IsBlankReady ghosts shape rack a) (goes : Continues ghosts a b) where
-  pub was_led : WasLed ghosts (ghosts.counts rack) (ghosts.tells (below_of b)) (MakeArray shape) a b
+    (shape : Shape) (first : ℕ) (rack : R) (a b : Running R) (is : first ≡ length (line_of (MakeArray shape))) (well : IsShape shape)
+    (blank : IsBlankReady ghosts shape (Plain rack) a) (goes : Continues ghosts a b) where
+  pub was_led : WasLed ghosts (ghosts.counts rack) (ghosts.tells (behind (below_of b))) (MakeArray shape) a b
   was_led = record {
     in_place = all_in_place ghosts none both law shape first rack a b is well blank goes;
     led = led_of ghosts none both law shape first rack a b is well blank goes;

@@ -16,22 +16,18 @@ use Rattle.dg_io.specs.Told.{IsSame, Told}
 use Rattle.dg_io.specs.declared.outside.Rack.{Ghosts}
 use Rattle.dg_model.specs.Lives.{all_live, boundary_at, member_at}
 use Rattle.dg_model.specs.States.{CountsRise}
-use Rattle.dg_model.specs.declared.events.Event.{Event}
-use Rattle.dg_model.specs.declared.events.Event.TheVariants.{Array as MakeArray, Safe, Parity, Write, Read, Fail, Replace, Rebuild, Settle, Tend, Diffuse, Who, Pending, Cat, Ls, Tree, Home, Save, Regroup, LostFiles, Audit, DropDisk, MendDisk}
 use Rattle.dg_regroup.specs.LiveGhosts.{live}
 use Rattle.dg_regroup.specs.LivePassing.{own_calls, own_writes}
 use Rattle.dg_regroup.specs.LiveRacks.{DropsBoundaries, live_count, live_in, rack_in}
 use Rattle.dg_regroup.specs.declared.live_racks.LiveRack.{LiveRack}
 use Rattle.dg_run.proofs.Segments.{Begins, IsOfKind, Segment, of_reads, of_replacements, of_saves, segment}
-use Rattle.dg_run.specs.Courses.{calls_by}
-use Rattle.dg_run.specs.Histories.{Continues, ContinuesBy, IsReady, TellsLine, below_of, boundaries_of, live_of}
-use Rattle.dg_run.specs.Plain.{is_plain}
+use Rattle.dg_run.specs.Histories.{IsReadyOn, TellsLine, below_of, boundaries_of, live_of}
 use Rattle.dg_run.specs.Steps.{GoesReplaced, GoesSaved, rack_of, shape_of}
 use Rattle.dg_run.specs.declared.arrays.Array.{Array}
-use Rattle.dg_store.specs.Leaves.{IsAnyCallBelow, IsCallBelow, IsCallOrBlankBelow, IsCallOrExtendBelow}
+use Rattle.dg_store.specs.Leaves.{IsCallBelow, IsCallOrBlankBelow, IsCallOrExtendBelow}
 use Rattle.dg_store.specs.Reduced.{left_in}
 use Rattle.dg_store.specs.Stores as stores
-use Rattle.dg_volume.specs.Regroups.{GoesOn, KeepsOrLeaves, TakesOut}
+use Rattle.dg_volume.specs.Regroups.{GoesOn, TakesOut}
 use Rattle.dg_volume.specs.Volumes.{Leaves, LeavesBy, any_phase}
 use Rattle.dg_volume.specs.Volumes as volumes
 
@@ -99,30 +95,14 @@ begins_left numbers left lost b x y begins size bits drops =
           ∙ sym (get_or-map (boundary_at numbers) left i 0 0 within);
     }
 
-calls_of_plain : (event : Event) → is_plain event ≡ true → (bound : ℕ) (call : RackCall) → IsCallBelow bound call → calls_by event bound call
-calls_of_plain (MakeArray s) is bound call h = h
-calls_of_plain (Safe s) is bound call h = h
-calls_of_plain (Parity s n) is bound call h = h
-calls_of_plain (Write b x) is bound call h = h
-calls_of_plain (Read b) is bound call h = h
-calls_of_plain (Fail s j) is bound call h = h
-calls_of_plain (Replace s j) is bound call h = absurd (cc is)
-calls_of_plain (Rebuild s n) is bound call h = h
-calls_of_plain Settle is bound call h = h
-calls_of_plain (Tend n) is bound call h = h
-calls_of_plain Diffuse is bound call h = h
-calls_of_plain (Who b) is bound call h = h
-calls_of_plain Pending is bound call h = h
-calls_of_plain (Cat p) is bound call h = h
-calls_of_plain (Ls p) is bound call h = h
-calls_of_plain Tree is bound call h = h
-calls_of_plain (Home p) is bound call h = h
-calls_of_plain Save is bound call h = absurd (cc is)
-calls_of_plain Regroup is bound call h = h
-calls_of_plain LostFiles is bound call h = h
-calls_of_plain Audit is bound call h = h
-calls_of_plain (DropDisk s j) is bound call h = h
-calls_of_plain (MendDisk s j) is bound call h = h
+-- What calls of this kind leave of an array: one of the same first line, ready for the next event. On the rack below such calls were made, on members of
+-- that line's boundaries alone; and what that tells it told before.
+pub record ContinuesBy {R : Type 0} (rack : Ghosts R) (may : ℕ → RackCall → Type 0) (old new : Array (LiveRack R)) : Type 0 where
+  pub ready : IsReadyOn rack new
+  pub line : volumes.line_of new.volume ≡ volumes.line_of old.volume
+  pub boundaries : boundaries_of new ≡ boundaries_of old
+  pub made : Makes rack (may (boundaries_of old)) (below_of old) (below_of new)
+  pub tells : StillTold (rack.bytes (below_of old)) (rack.bytes (below_of new))
 
 module _ {R : Type 0} (rack : Ghosts R) (none : (s : R) → rack.made s [] s) (both : (a b c : R) (x y : List RackCall) → rack.made a x b → rack.made b y c → rack.made a (x ++ y) c)
     (law : (a b : R) (made : List RackCall) → rack.made a made b → After rack made a b) where
@@ -137,39 +117,23 @@ module _ {R : Type 0} (rack : Ghosts R) (none : (s : R) → rack.made s [] s) (b
   pub same_name : (may : RackCall → Type 0) (x y : R) → Makes rack may x y → rack.name y ≡ rack.name x
   same_name may x y made = let whole = makes_made rack may none both x y made in (law x y whole.calls whole.made).same_rack
 
-  not_on : (bound p : ℕ) → bound ≤ p / 2 → (call : RackCall) → IsAnyCallBelow bound call → IsNotOn p call
-  not_on bound p past (looks q) low = absurd low
-  not_on bound p past (blanks q) low = λ same. omega (arith, past, low, same)
-  not_on bound p past (calls q) low = λ same. omega (arith, past, low, same)
-  not_on bound p past (extends q) low = λ same. omega (arith, past, low, same)
-
-  pub others_same : (bound : ℕ) (x y : R) → Makes rack (IsAnyCallBelow bound) x y → (p : ℕ) → bound ≤ p / 2 → Told IsSame (rack.bytes x p) (rack.bytes y p)
-  others_same bound x y made p past =
-      let whole = makes_made rack (IsAnyCallBelow bound) none both x y made in
-      (law x y whole.calls whole.made).other_bytes p (each_such (IsAnyCallBelow bound) (IsNotOn p) (not_on bound p past) whole.calls whole.each)
-
-  pub others_counts : (bound : ℕ) (x y : R) → Makes rack (IsAnyCallBelow bound) x y → (p : ℕ) → bound ≤ p / 2 → (rack.counts y).faults p ≡ (rack.counts x).faults p
-  others_counts bound x y made p past =
-      let whole = makes_made rack (IsAnyCallBelow bound) none both x y made in
-      (law x y whole.calls whole.made).other_faults p (each_such (IsAnyCallBelow bound) (IsNotOn p) (not_on bound p past) whole.calls whole.each)
-
   -- ---- an array goes on
 
-  begins_of : (a : Array (LiveRack R)) → IsReady rack a → Begins (live_of a) (rack_of a)
+  begins_of : (a : Array (LiveRack R)) → IsReadyOn rack a → Begins (live_of a) (rack_of a)
   begins_of a ready = record { longer = ready.longer; places = ready.places }
 
-  segment_of : (may : ℕ → RackCall → Type 0) → IsOfKind may → (a b : Array (LiveRack R)) → IsReady rack a → LeavesBy any_phase any_phase (live rack) may a.volume b.volume
+  segment_of : (may : ℕ → RackCall → Type 0) → IsOfKind may → (a b : Array (LiveRack R)) → IsReadyOn rack a → LeavesBy any_phase any_phase (live rack) may a.volume b.volume
       → Segment rack may (boundaries_of a) (rack_of a) (rack_of b)
   segment_of may kind a b ready leaves =
       segment rack none both law may kind (live_of a) (boundaries_of a) (rack_of a) (rack_of b) (begins_of a ready) ready.sound.in_use.live.within
       (subst (λ (n : ℕ). Makes (live rack) (may n) (rack_of a) (rack_of b)) (sym ready.sound.in_use.number) leaves.own.made) leaves.tells
 
-  whole_on : (a b : Array (LiveRack R)) → live_in (rack_of b) ≡ live_in (rack_of a) → live_of b ≡ live_of a → boundaries_of b ≡ boundaries_of a
+  pub whole_on : (a b : Array (LiveRack R)) → live_in (rack_of b) ≡ live_in (rack_of a) → live_of b ≡ live_of a → boundaries_of b ≡ boundaries_of a
       → (live_in (rack_of a) ≡ all_live 16) ⊎ (length (live_of a) < boundaries_of a) → (live_in (rack_of b) ≡ all_live 16) ⊎ (length (live_of b) < boundaries_of b)
   whole_on a b same live_is line (inl all) = inl (same ∙ all)
   whole_on a b same live_is line (inr less) = inr (omega (arith, ap length live_is, line, less))
 
-  continues_of : (may : ℕ → RackCall → Type 0) → IsOfKind may → (a b : Array (LiveRack R)) → IsReady rack a → LeavesBy any_phase any_phase (live rack) may a.volume b.volume
+  continues_of : (may : ℕ → RackCall → Type 0) → IsOfKind may → (a b : Array (LiveRack R)) → IsReadyOn rack a → LeavesBy any_phase any_phase (live rack) may a.volume b.volume
       → ContinuesBy rack may a b
   continues_of may kind a b ready leaves =
       let s = segment_of may kind a b ready leaves in
@@ -189,49 +153,17 @@ module _ {R : Type 0} (rack : Ghosts R) (none : (s : R) → rack.made s [] s) (b
         tells = s.tells;
       }
 
-  -- by an event that reads and writes, by one that saves, and by one that makes a member anew
-  pub reads_by : (a b : Array (LiveRack R)) → IsReady rack a → Leaves any_phase any_phase (live rack) a.volume b.volume → ContinuesBy rack IsCallBelow a b
+  -- by calls that read and write, by those of a save, and by those of a replacement
+  pub reads_by : (a b : Array (LiveRack R)) → IsReadyOn rack a → Leaves any_phase any_phase (live rack) a.volume b.volume → ContinuesBy rack IsCallBelow a b
   reads_by a b ready leaves = continues_of IsCallBelow of_reads a b ready leaves
 
-  pub saves_by : (a b : Array (LiveRack R)) → IsReady rack a → GoesSaved (live rack) a b → ContinuesBy rack IsCallOrExtendBelow a b
+  pub saves_by : (a b : Array (LiveRack R)) → IsReadyOn rack a → GoesSaved (live rack) a b → ContinuesBy rack IsCallOrExtendBelow a b
   saves_by a b ready leaves = continues_of IsCallOrExtendBelow of_saves a b ready leaves
 
-  pub replaces_by : (a b : Array (LiveRack R)) → IsReady rack a → GoesReplaced (live rack) a b → ContinuesBy rack IsCallOrBlankBelow a b
+  pub replaces_by : (a b : Array (LiveRack R)) → IsReadyOn rack a → GoesReplaced (live rack) a b → ContinuesBy rack IsCallOrBlankBelow a b
   replaces_by a b ready leaves = continues_of IsCallOrBlankBelow of_replacements a b ready leaves
 
-  -- calls of a kind are calls that look for no member
-  continues_any : (may : ℕ → RackCall → Type 0) → IsOfKind may → (a b : Array (LiveRack R)) → ContinuesBy rack may a b → Continues rack a b
-  continues_any may kind a b goes = record {
-    ready = goes.ready;
-    line = goes.line;
-    boundaries = goes.boundaries;
-    made = makes_such rack (may (boundaries_of a)) (IsAnyCallBelow (boundaries_of a)) (kind.any (boundaries_of a)) (below_of a) (below_of b) goes.made;
-    tells = goes.tells;
-  }
-
-  pub any_read : (a b : Array (LiveRack R)) → ContinuesBy rack IsCallBelow a b → Continues rack a b
-  any_read a b goes = continues_any IsCallBelow of_reads a b goes
-
-  pub continues_by : (a b : Array (LiveRack R)) → IsReady rack a → Leaves any_phase any_phase (live rack) a.volume b.volume → Continues rack a b
-  continues_by a b ready leaves = any_read a b (reads_by a b ready leaves)
-
-  pub continues_saved : (a b : Array (LiveRack R)) → IsReady rack a → GoesSaved (live rack) a b → Continues rack a b
-  continues_saved a b ready leaves = continues_any IsCallOrExtendBelow of_saves a b (saves_by a b ready leaves)
-
-  pub continues_replaced : (a b : Array (LiveRack R)) → IsReady rack a → GoesReplaced (live rack) a b → Continues rack a b
-  continues_replaced a b ready leaves = continues_any IsCallOrBlankBelow of_replacements a b (replaces_by a b ready leaves)
-
-  -- an event that makes no member anew nor extends one makes calls of its kind so
-  pub reads_plain : (event : Event) → is_plain event ≡ true → (a b : Array (LiveRack R)) → ContinuesBy rack IsCallBelow a b → ContinuesBy rack (calls_by event) a b
-  reads_plain event is a b goes = record {
-    ready = goes.ready;
-    line = goes.line;
-    boundaries = goes.boundaries;
-    made = makes_such rack (IsCallBelow (boundaries_of a)) (calls_by event (boundaries_of a)) (calls_of_plain event is (boundaries_of a)) (below_of a) (below_of b) goes.made;
-    tells = goes.tells;
-  }
-
-  pub reads_none : (a : Array (LiveRack R)) → IsReady rack a → ContinuesBy rack IsCallBelow a a
+  pub reads_none : (a : Array (LiveRack R)) → IsReadyOn rack a → ContinuesBy rack IsCallBelow a a
   reads_none a ready = record {
     ready = ready;
     line = refl;
@@ -240,26 +172,8 @@ module _ {R : Type 0} (rack : Ghosts R) (none : (s : R) → rack.made s [] s) (b
     tells = λ q told. told;
   }
 
-  pub continues_none : (a : Array (LiveRack R)) → IsReady rack a → Continues rack a a
-  continues_none a ready = any_read a a (reads_none a ready)
-
-  pub continues_then : (a b c : Array (LiveRack R)) → Continues rack a b → Continues rack b c → Continues rack a c
-  continues_then a b c first second = record {
-    ready = second.ready;
-    line = second.line ∙ first.line;
-    boundaries = second.boundaries ∙ first.boundaries;
-    made = makes_both rack (IsAnyCallBelow (boundaries_of a)) (below_of a) (below_of b) (below_of c) first.made
-        (subst (λ (n : ℕ). Makes rack (IsAnyCallBelow n) (below_of b) (below_of c)) first.boundaries second.made);
-    tells = λ q told. first.tells q (second.tells q told);
-  }
-
-  -- what the rack tells in the end of the first line's members it told before
-  pub told_line : (a b : Array (LiveRack R)) → Continues rack a b → TellsLine rack b → TellsLine rack a
-  told_line a b goes tells p low =
-      told_before (IsAnyCallBelow (boundaries_of a)) (below_of a) (below_of b) goes.made p (tells p (subst (λ (n : ℕ). p / 2 < n) (sym goes.boundaries) low))
-
   -- so it tells its volume's members
-  pub told_volume : (a : Array (LiveRack R)) → IsReady rack a → TellsLine rack a → volumes.Tells (live rack) a.volume
+  pub told_volume : (a : Array (LiveRack R)) → IsReadyOn rack a → TellsLine rack a → volumes.Tells (live rack) a.volume
   told_volume a ready tells q below there =
       let place : q / 2 < length (live_of a) = omega (arith, below, ready.sound.in_use.number) in
       let number : slice_index (live_in (rack_of a)) (q / 2) ≡ slice_index (live_of a) (q / 2) = ready.places (q / 2) place in
@@ -277,7 +191,7 @@ module _ {R : Type 0} (rack : Ghosts R) (none : (s : R) → rack.made s [] s) (b
     pub begins : Begins (live_of b) left
     pub second : Segment rack IsCallBelow (boundaries_of a) left (rack_of b)
 
-  pub parts_of : (a b : Array (LiveRack R)) → IsReady rack a → GoesOn any_phase (live rack) a.volume b.volume
+  pub parts_of : (a b : Array (LiveRack R)) → IsReadyOn rack a → GoesOn any_phase (live rack) a.volume b.volume
       → (out : TakesOut (live rack) live_count DropsBoundaries a.volume.store b.volume.store) → live_of b ≡ map (boundary_at (live_of a)) (left_in out.mid)
       → Parts a b (stores.rack_of out.mid) (stores.rack_of out.left)
   parts_of a b ready goes out is =
@@ -308,7 +222,7 @@ module _ {R : Type 0} (rack : Ghosts R) (none : (s : R) → rack.made s [] s) (b
             (subst (λ (n : ℕ). Makes (live rack) (IsCallBelow n) left (rack_of b)) (sym wide) out.read.own.made) out.read.stays.tells;
       }
 
-  fewer_out : (a b : Array (LiveRack R)) → IsReady rack a → GoesOn any_phase (live rack) a.volume b.volume
+  fewer_out : (a b : Array (LiveRack R)) → IsReadyOn rack a → GoesOn any_phase (live rack) a.volume b.volume
       → (out : TakesOut (live rack) live_count DropsBoundaries a.volume.store b.volume.store) → live_of b ≡ map (boundary_at (live_of a)) (left_in out.mid) → length (live_of b) < boundaries_of b
   fewer_out a b ready goes out is =
       let count : length (live_of b) ≡ length (left_in out.mid) = ap length is ∙ length-map (left_in out.mid) (boundary_at (live_of a)) in
@@ -317,7 +231,7 @@ module _ {R : Type 0} (rack : Ghosts R) (none : (s : R) → rack.made s [] s) (b
       let most = ready.sound.long in
       omega (arith, count, out.fewer, same_b, fewer, most, goes.boundaries)
 
-  pub reads_out : (a b : Array (LiveRack R)) → IsReady rack a → GoesOn any_phase (live rack) a.volume b.volume
+  pub reads_out : (a b : Array (LiveRack R)) → IsReadyOn rack a → GoesOn any_phase (live rack) a.volume b.volume
       → (out : TakesOut (live rack) live_count DropsBoundaries a.volume.store b.volume.store) → live_of b ≡ map (boundary_at (live_of a)) (left_in out.mid) → ContinuesBy rack IsCallBelow a b
   reads_out a b ready goes out is =
       let mid = stores.rack_of out.mid in
@@ -340,14 +254,8 @@ module _ {R : Type 0} (rack : Ghosts R) (none : (s : R) → rack.made s [] s) (b
         tells = λ q told. p.first.tells q (subst (λ (r : R). IsSome (rack.bytes r q)) p.same (p.second.tells q told));
       }
 
-  -- where memory was wanting for that
-  pub continues_wanting : (a b : Array (LiveRack R)) → IsReady rack a → GoesOn any_phase (live rack) a.volume b.volume → KeepsOrLeaves (live rack) live_count DropsBoundaries a.volume b.volume
-      → Continues rack a b
-  continues_wanting a b ready goes (inl kept) = continues_by a b ready kept.0
-  continues_wanting a b ready goes (inr out) = any_read a b (reads_out a b ready goes out.out out.live_is)
-
   -- what is told in the end of the first line's members was told of the members that were in use
-  pub told_mid : (a b : Array (LiveRack R)) → IsReady rack a → (goes : GoesOn any_phase (live rack) a.volume b.volume)
+  pub told_mid : (a b : Array (LiveRack R)) → IsReadyOn rack a → (goes : GoesOn any_phase (live rack) a.volume b.volume)
       → (out : TakesOut (live rack) live_count DropsBoundaries a.volume.store b.volume.store) → live_of b ≡ map (boundary_at (live_of a)) (left_in out.mid) → TellsLine rack b
       → (q : ℕ) → q / 2 < (stores.shape_of out.mid).b → (live rack).tells (stores.rack_of out.mid) q
   told_mid a b ready goes out is tells q below there =

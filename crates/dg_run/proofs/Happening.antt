@@ -1,73 +1,61 @@
 -- Events on an array of the boundaries in use lead from one state and rack to the next.
 use Rattle.std.proofs.Common.{◌≡◌, ◌⊎◌, ◌∙◌, ◌+◌, ◌*◌, ◌/◌, ◌%◌, ◌<◌, ℕ, true, List, [], ◌∷◌, ◌++◌, ap, arith, inl, inr, length, slice_index, refl, subst, sym}
-use Rattle.std.specs.Prelude.{Option, Result, Ok, Err, OnOk}
-use Rattle.dg_io.specs.Makes.{Makes}
+use Rattle.std.specs.Prelude.{Option, None, Some, Result, Ok, Err, OnOk}
 use Rattle.dg_io.specs.RackCalls.{RackCall}
 use Rattle.dg_io.specs.RackWords.{After}
 use Rattle.dg_io.specs.declared.outside.Rack.{Ghosts}
 use Rattle.dg_model.proofs.KnownLaws.{step_less}
-use Rattle.dg_model.proofs.MomentLaws.{tied_less}
 use Rattle.std.proofs.lemmas.List.FromFn.{get_or-range_with_len, length-range_with_len}
 use Rattle.dg_model.specs.Lives.{all_live, member_at}
-use Rattle.dg_model.specs.Moments.{AreCountsOf, Happens, History, IsAllowed, Kind, Makes as MakesArray, Moment}
+use Rattle.dg_model.specs.Moments.{AreCountsOf, Happens, History, IsAllowed, Moment}
 use Rattle.dg_model.specs.Moments.Kind.{plain}
 use Rattle.dg_model.specs.States.{Counts, State}
 use Rattle.dg_model.specs.Steps.{IsReduced, Step}
 use Rattle.dg_model.specs.declared.events.Event.{Event}
 use Rattle.dg_model.specs.declared.events.Event.TheVariants.{Array, Safe, Parity, Write, Read, Fail, Replace, Rebuild, Settle, Tend, Diffuse, Who, Pending, Cat, Ls, Tree, Home, Save, Regroup, LostFiles, Audit, DropDisk, MendDisk}
 use Rattle.dg_model.specs.declared.replies.Reply.{Reply}
-use Rattle.dg_model.specs.declared.replies.Reply.TheVariants.{Lost, NotParity, Saved}
-use Rattle.dg_model.specs.declared.shapes.Shape.{Shape}
-use Rattle.dg_regroup.specs.LiveGhosts.{live}
+use Rattle.dg_model.specs.declared.replies.Reply.TheVariants.{Lost, NotParity, NotSaved, Saved}
 use Rattle.dg_regroup.specs.LiveRacks.{is_there, live_counts, live_in}
-use Rattle.dg_regroup.specs.declared.live_racks.LiveRack.{LiveRack}
-use Rattle.dg_run.proofs.Continuing.{rises, told_volume}
+use Rattle.dg_run.proofs.Continuing.{told_volume}
+use Rattle.dg_run.proofs.Laters.{GoesBy, later_went}
 use Rattle.dg_run.proofs.Segments.{by_place, there_by}
-use Rattle.dg_run.specs.Courses.{AnswersPairs, Course, Leading, Standing, calls_by}
-use Rattle.dg_run.specs.Histories.{ContinuesBy, EventAnswered, EventCut, EventDone, EventListed, EventWanted, IsReady, KnownBy, RunsTo, VolumeRunsTo, standing_of, below_of, boundaries_of, live_of, on_pairs}
+use Rattle.dg_run.specs.Courses.{AnswersBy, Course, Leading, Standing, Went}
+use Rattle.dg_run.specs.Histories.{EventAnswered, EventCut, EventDone, EventListed, EventWanted, IsReady, KnownBy, Running, RunsTo, VolumeRunsTo, standing_of, below_of, boundaries_of, live_of, on_pairs, running}
 use Rattle.dg_run.specs.Plain.{IsOfPairs}
 use Rattle.dg_run.specs.Replays.{HoldsInUse}
 use Rattle.dg_run.specs.Steps.{Answered, AnsweredBefore, AnsweredPart, Known, ListedBefore, StandsIn, StepsTo, VolumeStepsTo, WantedFor, rack_of}
-use Rattle.dg_run.specs.declared.arrays.Array as arrays
+use Rattle.dg_stop.specs.StopLaws.{stop_after, stop_both, stop_none}
+use Rattle.dg_stop.specs.StopRacks.{stop_bytes, stop_counts, stop_room, stop_words}
+use Rattle.dg_stop.specs.Ties.{plain_rise}
+use Rattle.dg_stop.specs.declared.stop_racks.StopRack.{StopRack}
 use Rattle.dg_volume.specs.HeldLaws.{holds_all}
 use Rattle.dg_volume.specs.Volumes.{any_phase}
 use Rattle.dg_volume.specs.Volumes as volumes
 
 -- ---- what a course takes over
 
-pub leading_less : {R K J : Type 0} (rack : Ghosts R) (w : J → K) (old : Standing R) (event : Event) (reply : Reply) (new : Standing R) → Leading rack K old event reply new
+pub leading_less : {R K J : Type 0} (rack : Ghosts R) (w : J → K) (old : Standing (StopRack R)) (event : Event) (reply : Reply) (new : Standing (StopRack R)) → Leading rack K old event reply new
     → Leading rack J old event reply new
-leading_less rack w old event reply new h = record { step = step_less w old.state event reply new.state h.step; answers = h.answers; tied = h.tied; made = h.made }
+leading_less rack w old event reply new h = record { step = step_less w old.state event reply new.state h.step; answers = h.answers; tied = h.tied; went = h.went }
 
-pub course_less : {R K J : Type 0} (rack : Ghosts R) (w : J → K) (old : Standing R) (events : List Event) (replies : List Reply) (new : Standing R) → Course rack K old events replies new
+pub course_less : {R K J : Type 0} (rack : Ghosts R) (w : J → K) (old : Standing (StopRack R)) (events : List Event) (replies : List Reply) (new : Standing (StopRack R)) → Course rack K old events replies new
     → Course rack J old events replies new
 course_less rack w old [] [] new h = h
 course_less rack w old [] (reply ∷ replies) new h = absurd h
 course_less rack w old (event ∷ events) [] new h = absurd h
 course_less rack w old (event ∷ events) (reply ∷ replies) new h = (h.0, leading_less rack w old event reply h.0 h.1, course_less rack w h.0 events replies new h.2)
 
-pub course_both : {R : Type 0} (rack : Ghosts R) (K : Type 0) (old : Standing R) (events : List Event) (replies : List Reply) (mid : Standing R) (more : List Event) (others : List Reply)
-    (new : Standing R) → Course rack K old events replies mid → Course rack K mid more others new → Course rack K old (events ++ more) (replies ++ others) new
-course_both {R = R} rack K old [] [] mid more others new first second = subst (λ (m : Standing R). Course rack K m more others new) first second
+pub course_both : {R : Type 0} (rack : Ghosts R) (K : Type 0) (old : Standing (StopRack R)) (events : List Event) (replies : List Reply) (mid : Standing (StopRack R)) (more : List Event) (others : List Reply)
+    (new : Standing (StopRack R)) → Course rack K old events replies mid → Course rack K mid more others new → Course rack K old (events ++ more) (replies ++ others) new
+course_both {R = R} rack K old [] [] mid more others new first second = subst (λ (m : Standing (StopRack R)). Course rack K m more others new) first second
 course_both rack K old [] (reply ∷ replies) mid more others new first second = absurd first
 course_both rack K old (event ∷ events) [] mid more others new first second = absurd first
 course_both rack K old (event ∷ events) (reply ∷ replies) mid more others new first second =
     (first.0, first.1, course_both rack K first.0 events replies mid more others new first.2 second)
 
--- what is made of a blank array, where less is known
-pub makes_less : {K J : Type 0} {kind : Kind} {event : Event} {shape : Shape} {before : Counts} {blank : Moment} → (J → K) → MakesArray K kind event shape before blank
-    → MakesArray J kind event shape before blank
-makes_less {kind = kind} {event = event} {before = before} {blank = blank} w h = record {
-  first = h.first;
-  is_blank = h.is_blank;
-  begun = h.begun;
-  rise = h.rise;
-  tied = tied_less w kind event (record { state = record blank.state { counts = h.first }; beneath = record { counts = before; out = λ d. false } }) blank h.tied;
-}
+-- ---- what an array over a plain rack answers
 
--- ---- what mirrored pairs answer
-
-pub allowed_of : (old new : Moment) (event : Event) (reply : Reply) → AnswersPairs old.state event reply → IsAllowed plain old event reply new
+pub allowed_of : (old new : Moment) (event : Event) (reply : Reply) → AnswersBy old.state event reply None → IsAllowed plain old event reply new
 allowed_of old new (Array s) NotParity h = tt
 allowed_of old new (Array s) reply h = tt
 allowed_of old new (Safe s) NotParity h = tt
@@ -118,109 +106,114 @@ allowed_of old new (MendDisk s j) reply h = subst (λ (r : Reply). IsAllowed pla
 module _ {R : Type 0} (rack : Ghosts R) (none : (s : R) → rack.made s [] s) (both : (a b c : R) (x y : List RackCall) → rack.made a x b → rack.made b y c → rack.made a (x ++ y) c)
     (law : (a b : R) (made : List RackCall) → rack.made a made b → After rack made a b) where
   -- the counts of the members in use are those of the rack below
-  tied_at : (b : arrays.Array (LiveRack R)) → IsReady rack b → AreCountsOf (live_of b) (rack.counts (below_of b)) (live_counts rack (rack_of b))
+  tied_at : (b : Running R) → IsReady rack b → AreCountsOf (live_of b) (stop_counts rack (below_of b)) (live_counts (stop_words rack) (rack_of b))
   tied_at b ready = record {
     faults = λ q low.
         let there : is_there (live_in (rack_of b)) q ≡ true = there_by (live_in (rack_of b)) q (omega (arith, low, ready.longer)) in
-        rw there (ap (λ (n : ℕ). (rack.counts (below_of b)).faults (2 * n + q % 2)) (ready.places (q / 2) low));
+        rw there (ap (λ (n : ℕ). (stop_counts rack (below_of b)).faults (2 * n + q % 2)) (ready.places (q / 2) low));
     calls = omega (arith, ready.calls);
     writes = omega (arith, ready.writes);
   }
 
-  pub tied_in : {P : Type 0} (b : arrays.Array (LiveRack R)) (state : State) → IsReady rack b → volumes.StandsIn any_phase (live rack) P b.volume state
-      → AreCountsOf state.live (rack.counts (below_of b)) state.counts
-  tied_in b state ready stands = subst (λ (s : State). AreCountsOf s.live (rack.counts (below_of b)) s.counts) (sym stands.is) (tied_at b ready)
+  pub tied_in : {P : Type 0} (b : Running R) (state : State) → IsReady rack b → volumes.StandsIn any_phase (running rack) P b.volume state
+      → AreCountsOf state.live (stop_counts rack (below_of b)) state.counts
+  tied_in b state ready stands = subst (λ (s : State). AreCountsOf s.live (stop_counts rack (below_of b)) s.counts) (sym stands.is) (tied_at b ready)
 
-  pub leads_on : {P Q : Type 0} (a b : arrays.Array (LiveRack R)) (event : Event) (reply : Reply) (state next : State) → ContinuesBy rack (calls_by event) a b
-      → volumes.StandsIn any_phase (live rack) Q b.volume next → AnswersPairs state event reply → Step P state event reply next
+  pub leads_on : {P Q : Type 0} (a b : Running R) (event : Event) (reply : Reply) (state next : State) → GoesBy rack event a b
+      → volumes.StandsIn any_phase (running rack) Q b.volume next → AnswersBy state event reply (stop_room (below_of a)) → Step P state event reply next
       → Leading rack P (standing_of a state) event reply (standing_of b next)
   leads_on a b event reply state next goes stands answers step = record {
     step = step;
     answers = answers;
-    tied = tied_in b next goes.ready stands;
-    made = subst (λ (n : ℕ). Makes rack (calls_by event n) (below_of a) (below_of b)) (sym (ap (λ (s : State). s.boundaries) stands.is ∙ goes.boundaries)) goes.made;
+    tied = tied_in b next goes.on.ready stands;
+    went = subst (λ (n : ℕ). Went rack event n (below_of a) (below_of b)) (sym (ap (λ (s : State). s.boundaries) stands.is ∙ goes.on.boundaries)) goes.went;
   }
 
-  -- ---- the history of mirrored pairs
+  -- ---- the history of an array over a plain rack
 
-  pub happens : {K : Type 0} (old new : Standing R) (event : Event) (reply : Reply) → Leading rack K old event reply new → Happens K plain (on_pairs rack old) event reply (on_pairs rack new)
-  happens old new event reply h = record {
+  pub happens : {K : Type 0} (old new : Standing (StopRack R)) (event : Event) (reply : Reply) → stop_room old.rack ≡ None → Leading rack K old event reply new
+      → Happens K plain (on_pairs rack old) event reply (on_pairs rack new)
+  happens old new event reply no h = let later = later_went rack none both law event new.state.boundaries old.rack new.rack h.went in record {
     step = h.step;
-    allowed = allowed_of (on_pairs rack old) (on_pairs rack new) event reply h.answers;
-    rise = rises rack none both law (calls_by event new.state.boundaries) old.rack new.rack h.made;
+    allowed = allowed_of (on_pairs rack old) (on_pairs rack new) event reply (subst (λ (room : Option ℕ). AnswersBy old.state event reply room) no h.answers);
+    rise = plain_rise rack old.rack new.rack no (later.room ∙ no) later.rise;
     tied = h.tied;
   }
 
-  pub history_of : (K : Type 0) (old : Standing R) (events : List Event) (replies : List Reply) (new : Standing R) → Course rack K old events replies new
-      → History K plain (on_pairs rack old) events replies (on_pairs rack new)
-  history_of K old [] [] new h = ap (λ (s : Standing R). on_pairs rack s) h
-  history_of K old [] (reply ∷ replies) new h = absurd h
-  history_of K old (event ∷ events) [] new h = absurd h
-  history_of K old (event ∷ events) (reply ∷ replies) new h = (on_pairs rack h.0, happens old h.0 event reply h.1, history_of K h.0 events replies new h.2)
+  pub history_of : (K : Type 0) (old : Standing (StopRack R)) (events : List Event) (replies : List Reply) (new : Standing (StopRack R)) → stop_room old.rack ≡ None
+      → Course rack K old events replies new → History K plain (on_pairs rack old) events replies (on_pairs rack new)
+  history_of K old [] [] new no h = ap (λ (s : Standing (StopRack R)). on_pairs rack s) h
+  history_of K old [] (reply ∷ replies) new no h = absurd h
+  history_of K old (event ∷ events) [] new no h = absurd h
+  history_of K old (event ∷ events) (reply ∷ replies) new no h =
+      let later = later_went rack none both law event h.0.state.boundaries old.rack h.0.rack h.1.went in
+      (on_pairs rack h.0, happens old h.0 event reply no h.1, history_of K h.0 events replies new (later.room ∙ no) h.2)
 
   -- what is known by the line is known of the volume
-  known_of : {P : Type 0} (b : arrays.Array (LiveRack R)) → IsReady rack b → KnownBy P rack b → Known P (live rack) b
-  known_of b ready known = (told_volume rack none both law b ready known.0, known.1)
+  known_of : {P : Type 0} (b : Running R) → IsReady rack b → KnownBy P (stop_words rack) b → Known P (running rack) b
+  known_of b ready known = (told_volume (stop_words rack) (stop_none rack none) (stop_both rack both) (stop_after rack law) b ready known.0, known.1)
 
-  pairs_in : {P : Type 0} (a : arrays.Array (LiveRack R)) (state : State) (event : Event) (reply : Reply) → StandsIn (live rack) P a state → IsOfPairs a event reply → AnswersPairs state event reply
-  pairs_in a state event reply stands = by event reply where
+  pairs_in : {P : Type 0} (a : Running R) (state : State) (event : Event) (reply : Reply) (room : Option ℕ) → StandsIn (running rack) P a state → IsOfPairs a event reply room
+      → AnswersBy state event reply room
+  pairs_in a state event reply room stands = by event reply room where
     reduced : IsReduced state → length (live_of a) < boundaries_of a
     reduced less = subst (λ (s : State). length s.live < s.boundaries) stands.volume.is less
 
-    by : (e : Event) (r : Reply) → IsOfPairs a e r → AnswersPairs state e r
-    by (Array s) r h = tt
-    by (Safe s) r h = tt
-    by (Parity s n) r h = tt
-    by (Write b x) r h = tt
-    by (Read b) r h = tt
-    by (Fail s j) r h = tt
-    by (Replace s j) r h = tt
-    by (Rebuild s n) r h = tt
-    by Settle r h = tt
-    by (Tend n) r h = tt
-    by Diffuse r h = tt
-    by (Who b) r h = tt
-    by Pending r h = tt
-    by (Cat p) r h = tt
-    by (Ls p) r h = tt
-    by Tree r h = tt
-    by (Home p) r h = tt
-    by Regroup r h = tt
-    by LostFiles r h = tt
-    by Audit r h = tt
-    by Save (Saved q) h = λ less. h (reduced less)
-    by Save (Lost s) h = λ less. h (reduced less)
-    by Save r h = tt
-    by (DropDisk s j) r h = h
-    by (MendDisk s j) r h = h
+    by : (e : Event) (r : Reply) (o : Option ℕ) → IsOfPairs a e r o → AnswersBy state e r o
+    by (Array s) r o h = tt
+    by (Safe s) r o h = tt
+    by (Parity s n) r o h = tt
+    by (Write b x) r o h = tt
+    by (Read b) r o h = tt
+    by (Fail s j) r o h = tt
+    by (Replace s j) r o h = tt
+    by (Rebuild s n) r o h = tt
+    by Settle r o h = tt
+    by (Tend n) r o h = tt
+    by Diffuse r o h = tt
+    by (Who b) r o h = tt
+    by Pending r o h = tt
+    by (Cat p) r o h = tt
+    by (Ls p) r o h = tt
+    by Tree r o h = tt
+    by (Home p) r o h = tt
+    by Regroup r o h = tt
+    by LostFiles r o h = tt
+    by Audit r o h = tt
+    by Save (Saved q) None h = λ less. h (reduced less)
+    by Save (Lost s) None h = λ less. h (reduced less)
+    by Save NotSaved (Some n) h = h
+    by Save r o h = tt
+    by (DropDisk s j) r o h = h
+    by (MendDisk s j) r o h = h
 
-  pub runs_of : (a b : arrays.Array (LiveRack R)) (event : Event) (reply : Reply) → ContinuesBy rack (calls_by event) a b → IsOfPairs a event reply → StepsTo (live rack) a event reply b
+  pub runs_of : (a b : Running R) (event : Event) (reply : Reply) → GoesBy rack event a b → IsOfPairs a event reply (stop_room (below_of a)) → StepsTo (running rack) a event reply b
       → RunsTo rack a (event ∷ []) (reply ∷ []) b
   runs_of a b event reply goes pairs steps origin state st =
       let one = steps origin state st in
-      let answers = pairs_in a state event reply st pairs in
+      let answers = pairs_in a state event reply (stop_room (below_of a)) st pairs in
       record {
         after = origin;
         next = one.0;
         stands = one.1;
         known = λ tells held. held;
-        course = (standing_of b one.0, leads_on a b event reply state one.0 goes one.1.volume answers (step_less (known_of b goes.ready) state event reply one.0 one.2), refl);
+        course = (standing_of b one.0, leads_on a b event reply state one.0 goes one.1.volume answers (step_less (known_of b goes.on.ready) state event reply one.0 one.2), refl);
       }
 
-  pub volume_runs_of : (a b : arrays.Array (LiveRack R)) (event : Event) (reply : Reply) → ContinuesBy rack (calls_by event) a b → IsOfPairs a event reply → VolumeStepsTo (live rack) a event reply b
+  pub volume_runs_of : (a b : Running R) (event : Event) (reply : Reply) → GoesBy rack event a b → IsOfPairs a event reply (stop_room (below_of a)) → VolumeStepsTo (running rack) a event reply b
       → VolumeRunsTo rack a (event ∷ []) (reply ∷ []) b
   volume_runs_of a b event reply goes pairs steps origin state st =
       let one = steps origin state st in
-      let answers = pairs_in a state event reply st pairs in
+      let answers = pairs_in a state event reply (stop_room (below_of a)) st pairs in
       record {
         after = origin;
         next = one.0;
         stands = one.1;
         known = λ tells held. held;
-        course = (standing_of b one.0, leads_on a b event reply state one.0 goes one.1 answers (step_less (known_of b goes.ready) state event reply one.0 one.2), refl);
+        course = (standing_of b one.0, leads_on a b event reply state one.0 goes one.1 answers (step_less (known_of b goes.on.ready) state event reply one.0 one.2), refl);
       }
 
-  pub weaker_runs : (a b : arrays.Array (LiveRack R)) (events : List Event) (replies : List Reply) → RunsTo rack a events replies b → VolumeRunsTo rack a events replies b
+  pub weaker_runs : (a b : Running R) (events : List Event) (replies : List Reply) → RunsTo rack a events replies b → VolumeRunsTo rack a events replies b
   weaker_runs a b events replies runs origin state st =
       let one = runs origin state st in
       record { after = one.after; next = one.next; stands = one.stands.volume; known = one.known; course = one.course }
@@ -233,45 +226,45 @@ module _ {R : Type 0} (rack : Ghosts R) (none : (s : R) → rack.made s [] s) (b
       let number : slice_index (all_live 16) (q / 2) ≡ 0 + q / 2 = get_or-range_with_len 0 16 (q / 2) 0 (omega (arith, low)) in
       (there_by (all_live 16) q (omega (arith, low, length-range_with_len 0 16)), omega (arith, number))
 
-  seen_whole : (b : arrays.Array (LiveRack R)) → (live_in (rack_of b) ≡ all_live 16) ⊎ (length (live_of b) < boundaries_of b) → length (live_of b) ≡ boundaries_of b → (q : ℕ) → q < 32
-      → (live rack).bytes (rack_of b) q ≡ rack.bytes (below_of b) q
+  seen_whole : (b : Running R) → (live_in (rack_of b) ≡ all_live 16) ⊎ (length (live_of b) < boundaries_of b) → length (live_of b) ≡ boundaries_of b → (q : ℕ) → q < 32
+      → (running rack).bytes (rack_of b) q ≡ stop_bytes rack (below_of b) q
   seen_whole b (inl all) same q low =
       let own = own_place q low in
-      by_place rack none both law (rack_of b) q q (subst (λ (l : List ℕ). is_there l q ≡ true) (sym all) own.0) (sym own.1 ∙ ap (λ (l : List ℕ). member_at l q) (sym all))
+      by_place (stop_words rack) (stop_none rack none) (stop_both rack both) (stop_after rack law) (rack_of b) q q (subst (λ (l : List ℕ). is_there l q ≡ true) (sym all) own.0) (sym own.1 ∙ ap (λ (l : List ℕ). member_at l q) (sym all))
   seen_whole b (inr less) same q low = absurd (omega (arith, less, same))
 
-  pub holds_in_use : {P : Type 0} (b : arrays.Array (LiveRack R)) (state : State) → IsReady rack b → volumes.StandsIn any_phase (live rack) P b.volume state → KnownBy P rack b
-      → HoldsInUse (rack.bytes (below_of b)) state
+  pub holds_in_use : {P : Type 0} (b : Running R) (state : State) → IsReady rack b → volumes.StandsIn any_phase (running rack) P b.volume state → KnownBy P (stop_words rack) b
+      → HoldsInUse (stop_bytes rack (below_of b)) state
   holds_in_use {P = P} b state ready stands known =
       let same : state.live ≡ live_of b = ap (λ (s : State). s.live) stands.is in
       let line : state.boundaries ≡ boundaries_of b = ap (λ (s : State). s.boundaries) stands.is in
       record {
-        seen = (live rack).bytes (rack_of b);
+        seen = (running rack).bytes (rack_of b);
         at = λ q low.
             let place : q / 2 < length (live_of b) = subst (λ (l : List ℕ). q / 2 < length l) same low in
-            by_place rack none both law (rack_of b) q (member_at state.live q) (there_by (live_in (rack_of b)) q (omega (arith, place, ready.longer)))
+            by_place (stop_words rack) (stop_none rack none) (stop_both rack both) (stop_after rack law) (rack_of b) q (member_at state.live q) (there_by (live_in (rack_of b)) q (omega (arith, place, ready.longer)))
             (ap (λ (n : ℕ). 2 * n + q % 2) (ap (λ (l : List ℕ). slice_index l (q / 2)) same ∙ sym (ready.places (q / 2) place)));
         whole = λ all q low. seen_whole b ready.whole (sym (ap length same) ∙ all ∙ line) q low;
-        holds = holds_all (live rack) b.volume any_phase state ready.sound stands (known_of b ready known);
+        holds = holds_all (running rack) b.volume any_phase state ready.sound stands (known_of b ready known);
       }
 
   -- ---- answers
 
-  module _ (event : Event) (taken given : Option (List ℕ)) (a b : arrays.Array (LiveRack R)) (goes : ContinuesBy rack (calls_by event) a b) (pairs : (reply : Reply) → IsOfPairs a event reply) where
-    pub event_answered : {T E : Type 0} (result : Result T E) → OnOk result (Answered (live rack) event taken given a b) → OnOk result (EventAnswered rack event taken given a b)
+  module _ (event : Event) (taken given : Option (List ℕ)) (a b : Running R) (goes : GoesBy rack event a b) (pairs : (reply : Reply) → IsOfPairs a event reply (stop_room (below_of a))) where
+    pub event_answered : {T E : Type 0} (result : Result T E) → OnOk result (Answered (running rack) event taken given a b) → OnOk result (EventAnswered rack event taken given a b)
     event_answered (Ok done) h = record { reply = h.reply; runs = runs_of a b event h.reply goes (pairs h.reply) h.steps; output = h.output }
     event_answered (Err fault) h = tt
 
-    pub event_cut : AnsweredPart (live rack) event taken given a b → EventCut rack event taken given a b
+    pub event_cut : AnsweredPart (running rack) event taken given a b → EventCut rack event taken given a b
     event_cut h = record { reply = h.reply; runs = volume_runs_of a b event h.reply goes (pairs h.reply) h.steps; output = h.output }
 
-    event_done : AnsweredBefore (live rack) event taken given a b → EventDone rack event taken given a b
+    event_done : AnsweredBefore (running rack) event taken given a b → EventDone rack event taken given a b
     event_done h = record { reply = h.reply; notes = h.notes; runs = volume_runs_of a b event h.reply goes (pairs h.reply) h.steps; output = h.output }
 
-    event_listed : ListedBefore (live rack) event taken given a b → EventListed rack event taken given a b
+    event_listed : ListedBefore (running rack) event taken given a b → EventListed rack event taken given a b
     event_listed h = record { reply = h.reply; text = h.text; lines = h.lines; runs = volume_runs_of a b event h.reply goes (pairs h.reply) h.steps; output = h.output }
 
-    pub event_wanted : WantedFor (live rack) event taken given a b → EventWanted rack event taken given a b
+    pub event_wanted : WantedFor (running rack) event taken given a b → EventWanted rack event taken given a b
     event_wanted (inl none) = inl none
     event_wanted (inr (inl done)) = inr (inl (event_done done))
     event_wanted (inr (inr listed)) = inr (inr (event_listed listed))

@@ -34,22 +34,25 @@ use Rattle.dg_regroup.specs.LiveMade.{call_below, is_passed}
 use Rattle.dg_regroup.specs.LivePassing.{own_calls, own_writes, passes_on}
 use Rattle.dg_regroup.specs.LiveRacks.{HasNoneAbsent, is_there, live_in, rack_in}
 use Rattle.dg_regroup.specs.declared.live_racks.LiveRack.{LiveRack}
-use Rattle.dg_run.proofs.Continuing.{others_same, rises, same_name, told_line, told_volume}
+use Rattle.dg_run.proofs.Continuing.{rises, same_name, told_volume}
+use Rattle.dg_run.proofs.Laters.{told_line}
 use Rattle.dg_run.proofs.Happening.{course_less, history_of, holds_in_use}
 use Rattle.dg_run.proofs.Segments.{there_by}
 use Rattle.dg_run.specs.Calls.{Facts, met_by}
 use Rattle.dg_run.specs.Courses.{Course, Standing}
-use Rattle.dg_run.specs.Histories.{Continues, IsReady, KnownBy, RunsBefore, TellsLine, VolumeRunsTo, below_of, boundaries_of, live_of, on_pairs, standing_of}
+use Rattle.dg_run.specs.Histories.{Continues, IsReady, KnownBy, Running, RunsBefore, TellsLine, VolumeRunsTo, below_of, boundaries_of, live_of, on_pairs, running, standing_of}
 use Rattle.dg_run.specs.Opened.{Reached, Resumed, opened_moment}
 use Rattle.dg_run.specs.Resumes.{EndsResume}
 use Rattle.dg_run.specs.Steps.{StandsIn, rack_of, shape_of}
-use Rattle.dg_run.specs.declared.arrays.Array.{Array}
 use Rattle.dg_run.specs.declared.top.Status.{Status}
 use Rattle.dg_run.specs.declared.top.Status.TheVariants.{NoState, Unclean, WriteFault}
 use Rattle.dg_saved.specs.OpeningLaws.{had_less, next_less, reopened_on}
 use Rattle.dg_saved.specs.Saved.{FoundNoState, FoundUnclean, HasLooked, HasSource, IsKnown, IsOpenedAs, OthersKept, TellsArray, had}
 use Rattle.dg_saved.specs.Texts.{nostate_text, unclean_text}
-use Rattle.dg_store.specs.Leaves.{IsAnyCallBelow}
+use Rattle.dg_stop.specs.StopLaws.{stop_after, stop_both, stop_none}
+use Rattle.dg_stop.specs.StopRacks.{stop_room, stop_words}
+use Rattle.dg_stop.specs.Ties.{calls_room, name_behind, plain_bytes, plain_idle, plain_rise}
+use Rattle.dg_stop.specs.declared.stop_racks.StopRack.{StopRack}
 use Rattle.dg_volume.specs.Opens.{HasOpened}
 use Rattle.dg_volume.specs.Opens as openings
 use Rattle.dg_volume.specs.Origins.{Origin, WasHeld}
@@ -207,10 +210,10 @@ stands_by table members x y V same h = record {
   slot v n q (inr same) served holds = subst (λ (o : Option (List ℕ)). SlotOf table.shape.l n v o) (sym same) holds
 
 module _ {R : Type 0} (rack : Ghosts R) (none : (s : R) → rack.made s [] s) (both : (a b c : R) (x y : List RackCall) → rack.made a x b → rack.made b y c → rack.made a (x ++ y) c)
-    (law : (a b : R) (made : List RackCall) → rack.made a made b → After rack made a b) (start : LiveRack R) (all_in : live_in start ≡ all_live 16) (fresh : HasNoneAbsent start)
-    (a : Array (LiveRack R)) (opened : HasOpened (live rack) start a.volume a.hot) where
-  pub begun : Begun rack start (rack_of a)
-  begun = begun_of rack start (rack_of a) all_in fresh opened.made
+    (law : (a b : R) (made : List RackCall) → rack.made a made b → After rack made a b) (start : LiveRack (StopRack R)) (all_in : live_in start ≡ all_live 16) (fresh : HasNoneAbsent start)
+    (a : Running R) (opened : HasOpened (running rack) start a.volume a.hot) where
+  pub begun : Begun (stop_words rack) start (rack_of a)
+  begun = begun_of (stop_words rack) start (rack_of a) all_in fresh opened.made
 
   -- nothing was taken of a member from 32 on, so it is out
   not_good : (label : Label) (saved : SavedState) (q : ℕ) → 32 ≤ q → MayBeGood opened.taken label saved q → ⊥
@@ -228,15 +231,15 @@ module _ {R : Type 0} (rack : Ghosts R) (none : (s : R) → rack.made s [] s) (b
     | inr fell ↦ fell.out
   ]
 
-  faults_first : (q : ℕ) → q < 32 → ((live rack).counts start).faults q ≡ (rack.counts (rack_in start)).faults q
-  faults_first q low = own_faults rack start all_in q low
+  faults_first : (q : ℕ) → q < 32 → ((running rack).counts start).faults q ≡ ((stop_words rack).counts (rack_in start)).faults q
+  faults_first q low = own_faults (stop_words rack) start all_in q low
 
-  faults_opened : (q : ℕ) → q < 32 → ((live rack).counts (rack_of a)).faults q ≡ (rack.counts (below_of a)).faults q
-  faults_opened q low = own_faults rack (rack_of a) begun.whole q low
+  faults_opened : (q : ℕ) → q < 32 → ((running rack).counts (rack_of a)).faults q ≡ ((stop_words rack).counts (below_of a)).faults q
+  faults_opened q low = own_faults (stop_words rack) (rack_of a) begun.whole q low
 
   -- ---- its first line
 
-  line_by : (state : State) (K : Type 0) → Opens K opened.taken None ((live rack).counts start) state → state ≡ volumes.state_of any_phase (live rack) a.volume state state.blocks
+  line_by : (state : State) (K : Type 0) → Opens K opened.taken None ((running rack).counts start) state → state ≡ volumes.state_of any_phase (running rack) a.volume state state.blocks
       → (boundaries_of a ≡ (shape_of a).b) × (live_of a ≡ all_live (shape_of a).b)
   line_by state K opens is =
       let table : opens.saved.table ≡ volumes.table_of a.volume = sym opens.table ∙ ap (λ (s : State). s.table) is in (
@@ -273,7 +276,7 @@ module _ {R : Type 0} (rack : Ghosts R) (none : (s : R) → rack.made s [] s) (b
       }
 
   -- the counts of the members in use are those of the rack below
-  counts_opened : AreCountsOf (live_of a) (rack.counts (below_of a)) ((live rack).counts (rack_of a))
+  counts_opened : AreCountsOf (live_of a) ((stop_words rack).counts (below_of a)) ((running rack).counts (rack_of a))
   counts_opened =
       let own = begun in
       record {
@@ -281,16 +284,16 @@ module _ {R : Type 0} (rack : Ghosts R) (none : (s : R) → rack.made s [] s) (b
             let most = few in
             let place : slice_index (live_of a) (q / 2) ≡ 0 + q / 2 = place_is (q / 2) low in
             let number : member_at (live_of a) q ≡ q = omega (arith, place) in
-            faults_opened q (omega (arith, low, most)) ∙ ap (λ (n : ℕ). (rack.counts (below_of a)).faults n) (sym number);
+            faults_opened q (omega (arith, low, most)) ∙ ap (λ (n : ℕ). ((stop_words rack).counts (below_of a)).faults n) (sym number);
         calls = omega (arith, own.calls);
         writes = omega (arith, own.writes);
       }
 
   -- ---- the state that it was opened in, by the counts of the rack below
 
-  opens_below : {K J : Type 0} (w : J → K) (state : State) → state.counts ≡ (live rack).counts (rack_of a) → state.members ≡ volumes.members_of a.volume
-      → Opens K opened.taken None ((live rack).counts start) state
-      → Opens J opened.taken None (rack.counts (rack_in start)) (record state { counts = rack.counts (below_of a) })
+  opens_below : {K J : Type 0} (w : J → K) (state : State) → state.counts ≡ (running rack).counts (rack_of a) → state.members ≡ volumes.members_of a.volume
+      → Opens K opened.taken None ((running rack).counts start) state
+      → Opens J opened.taken None ((stop_words rack).counts (rack_in start)) (record state { counts = (stop_words rack).counts (below_of a) })
   opens_below w state same_counts same_members h = record {
     source = h.source;
     label = h.label;
@@ -312,86 +315,96 @@ module _ {R : Type 0} (rack : Ghosts R) (none : (s : R) → rack.made s [] s) (b
       | inr past ↦ ap (λ (m : ℕ → MemberState). m q) same_members ∙ out_members q past
     ];
     pending = next_less w (is_broken state) state.table.shape.l state.table.shape.n state.blocks h.saved.pending state.pending h.pending;
-    phase = reopened_on w h.saved state (rack.counts (below_of a)) h.phase;
+    phase = reopened_on w h.saved state ((stop_words rack).counts (below_of a)) h.phase;
     label_is = h.label_is;
     body = h.body;
-    counts = rise_first rack none both law start (rack_of a) begun;
+    counts = rise_first (stop_words rack) (stop_none rack none) (stop_both rack both) (stop_after rack law) start (rack_of a) begun;
   } where
-    faults_now : (q : ℕ) → q < 32 → state.counts.faults q ≡ (rack.counts (below_of a)).faults q
+    faults_now : (q : ℕ) → q < 32 → state.counts.faults q ≡ ((stop_words rack).counts (below_of a)).faults q
     faults_now q low = ap (λ (c : Counts). c.faults q) same_counts ∙ faults_opened q low
 
-    rose_at : (q : ℕ) → (MayBeGood opened.taken h.label h.saved q → Rose (((live rack).counts start).faults q) (state.counts.faults q)) → (q < 32) ⊎ (32 ≤ q)
-        → MayBeGood opened.taken h.label h.saved q → Rose ((rack.counts (rack_in start)).faults q) ((rack.counts (below_of a)).faults q)
+    rose_at : (q : ℕ) → (MayBeGood opened.taken h.label h.saved q → Rose (((running rack).counts start).faults q) (state.counts.faults q)) → (q < 32) ⊎ (32 ≤ q)
+        → MayBeGood opened.taken h.label h.saved q → Rose (((stop_words rack).counts (rack_in start)).faults q) (((stop_words rack).counts (below_of a)).faults q)
     rose_at q rose (inl low) may = rose_by _ _ _ _ (faults_first q low) (faults_now q low) (rose may)
     rose_at q rose (inr past) may = absurd (not_good h.label h.saved q past may)
 
-    out_by : (q : ℕ) → (state.members q ≡ Good) ⊎ ((state.members q ≡ Out) × (MayBeGood opened.taken h.label h.saved q → Rose (((live rack).counts start).faults q) (state.counts.faults q)))
+    out_by : (q : ℕ) → (state.members q ≡ Good) ⊎ ((state.members q ≡ Out) × (MayBeGood opened.taken h.label h.saved q → Rose (((running rack).counts start).faults q) (state.counts.faults q)))
         → (state.members q ≡ Good)
-        ⊎ ((state.members q ≡ Out) × (MayBeGood opened.taken h.label h.saved q → Rose ((rack.counts (rack_in start)).faults q) ((rack.counts (below_of a)).faults q)))
+        ⊎ ((state.members q ≡ Out) × (MayBeGood opened.taken h.label h.saved q → Rose (((stop_words rack).counts (rack_in start)).faults q) (((stop_words rack).counts (below_of a)).faults q)))
     out_by q (inl good) = inl good
     out_by q (inr gone) = inr (gone.0, rose_at q gone.1 (low_or_past q))
 
   -- ---- what came of it
 
-  module _ (b : Array (LiveRack R)) (goes : Continues rack a b) (left rest taken given : Option (List ℕ)) where
+  module _ (b : Running R) (goes : Continues rack a b) (no : stop_room (rack_in start) ≡ None) (left rest taken given : Option (List ℕ)) where
+    -- the rack was plain when it was opened
+    no_first : stop_room (below_of a) ≡ None
+    no_first =
+        let whole = makes_made (stop_words rack) IsCallOfOpening (stop_none rack none) (stop_both rack both) (rack_in start) (below_of a) begun.made in
+        calls_room rack (rack_in start) (below_of a) whole.calls whole.made ∙ no
+
     -- what the call met
     abbrev pub met : Facts
     met = record {
-      before = rack.counts (rack_in start);
-      now = rack.counts (below_of b);
-      images = rack.bytes (rack_in start);
-      bytes = rack.bytes (below_of b);
+      before = (stop_words rack).counts (rack_in start);
+      now = (stop_words rack).counts (below_of b);
+      images = (stop_words rack).bytes (rack_in start);
+      bytes = (stop_words rack).bytes (below_of b);
       left = left;
       rest = rest;
       taken = taken;
       given = given;
     }
 
+    -- it is plain still
+    no_last : stop_room (below_of b) ≡ None
+    no_last = goes.later.room ∙ no_first
+
     -- what the rack tells in the end
     abbrev pub told_now : ℕ → Type 0
-    told_now = rack.tells (below_of b)
+    told_now = (stop_words rack).tells (below_of b)
 
-    pub read_then : AreRead (λ q. had (rack.bytes (rack_in start) q) (rack.bytes (below_of b) q)) (rack.counts (rack_in start)).faults (rack.counts (below_of a)).faults opened.taken
+    pub read_then : AreRead (λ q. had ((stop_words rack).bytes (rack_in start) q) ((stop_words rack).bytes (below_of b) q)) ((stop_words rack).counts (rack_in start)).faults ((stop_words rack).counts (below_of a)).faults opened.taken
     read_then = record {
       each = λ q low.
-          had_less (λ bytes. IsRead opened.taken q ((rack.counts (rack_in start)).faults q) ((rack.counts (below_of a)).faults q) bytes (opened.taken q))
-          (rack.bytes (rack_in start) q) (rack.bytes (below_of a) q) (rack.bytes (below_of b) q) (goes.tells q)
-          (read_by opened.taken q _ _ _ _ _ _ (had_by _ _ _ _ (own_bytes rack start all_in q low) (own_bytes rack (rack_of a) begun.whole q low)) (faults_first q low) (faults_opened q low)
+          had_less (λ bytes. IsRead opened.taken q (((stop_words rack).counts (rack_in start)).faults q) (((stop_words rack).counts (below_of a)).faults q) bytes (opened.taken q))
+          ((stop_words rack).bytes (rack_in start) q) ((stop_words rack).bytes (below_of a) q) ((stop_words rack).bytes (below_of b) q) (goes.tells q)
+          (read_by opened.taken q _ _ _ _ _ _ (had_by _ _ _ _ (own_bytes (stop_words rack) start all_in q low) (own_bytes (stop_words rack) (rack_of a) begun.whole q low)) (faults_first q low) (faults_opened q low)
           (opened.read.each q low));
       others = opened.read.others;
     }
 
-    pub fell_below : (q : ℕ) → (rack.counts (rack_in start)).faults q < (rack.counts (below_of a)).faults q → volumes.members_of a.volume q ≡ Out
+    pub fell_below : (q : ℕ) → ((stop_words rack).counts (rack_in start)).faults q < ((stop_words rack).counts (below_of a)).faults q → volumes.members_of a.volume q ≡ Out
     fell_below q rose = elim (low_or_past q) [
       | inl low ↦ opened.fell q (less_by _ _ _ _ (faults_first q low) (faults_opened q low) rose)
       | inr past ↦ out_members q past
     ]
 
-    pub falls_below : MembersFall (rack.counts (rack_in start)).faults (rack.counts (below_of a)).faults opened.first (volumes.members_of a.volume)
+    pub falls_below : MembersFall ((stop_words rack).counts (rack_in start)).faults ((stop_words rack).counts (below_of a)).faults opened.first (volumes.members_of a.volume)
     falls_below q = by (low_or_past q) (opened.falls q) where
-      caused : q < 32 → Rose (((live rack).counts start).faults q) (((live rack).counts (rack_of a)).faults q)
+      caused : q < 32 → Rose (((running rack).counts start).faults q) (((running rack).counts (rack_of a)).faults q)
           ⊎ ((is_filling (opened.first q) ≡ true) × (volumes.members_of a.volume (partner_of q) ≡ Out))
-          → Rose ((rack.counts (rack_in start)).faults q) ((rack.counts (below_of a)).faults q)
+          → Rose (((stop_words rack).counts (rack_in start)).faults q) (((stop_words rack).counts (below_of a)).faults q)
           ⊎ ((is_filling (opened.first q) ≡ true) × (volumes.members_of a.volume (partner_of q) ≡ Out))
       caused low (inl rose) = inl (rose_by _ _ _ _ (faults_first q low) (faults_opened q low) rose)
       caused low (inr pair) = inr pair
 
       by : (q < 32) ⊎ (32 ≤ q)
           → (volumes.members_of a.volume q ≡ opened.first q)
-          ⊎ HasFallen ((live rack).counts start).faults ((live rack).counts (rack_of a)).faults opened.first (volumes.members_of a.volume) q
+          ⊎ HasFallen ((running rack).counts start).faults ((running rack).counts (rack_of a)).faults opened.first (volumes.members_of a.volume) q
           → (volumes.members_of a.volume q ≡ opened.first q)
-          ⊎ HasFallen (rack.counts (rack_in start)).faults (rack.counts (below_of a)).faults opened.first (volumes.members_of a.volume) q
+          ⊎ HasFallen ((stop_words rack).counts (rack_in start)).faults ((stop_words rack).counts (below_of a)).faults opened.first (volumes.members_of a.volume) q
       by (inl low) (inl same) = inl same
       by (inl low) (inr fell) = inr (record { out = fell.out; caused = caused low fell.caused })
       by (inr past) h = inl (out_members q past ∙ sym (out_first q past))
 
     -- what it was opened from
-    abbrev pub from : HasSource (met_by met) (rack.counts (below_of a))
+    abbrev pub from : HasSource (met_by met) ((stop_words rack).counts (below_of a))
     from = record {
       taken = opened.taken;
       read = read_then;
-      rise = rise_first rack none both law start (rack_of a) begun;
-      writes = writes_first rack none both law start (rack_of a) begun opened.writes;
+      rise = rise_first (stop_words rack) (stop_none rack none) (stop_both rack both) (stop_after rack law) start (rack_of a) begun;
+      writes = writes_first (stop_words rack) (stop_none rack none) (stop_both rack both) (stop_after rack law) start (rack_of a) begun opened.writes;
       source = opened.source;
       label = opened.label;
       saved = opened.saved;
@@ -403,52 +416,53 @@ module _ {R : Type 0} (rack : Ghosts R) (none : (s : R) → rack.made s [] s) (b
       falls = falls_below;
     }
 
-    pub name_then : rack.name (below_of b) ≡ rack.name (rack_in start)
-    name_then = same_name rack none both law (IsAnyCallBelow (boundaries_of a)) (below_of a) (below_of b) goes.made ∙ name_first rack none both law start (rack_of a) begun
+    pub name_then : (stop_words rack).name (below_of b) ≡ (stop_words rack).name (rack_in start)
+    name_then = name_behind rack (below_of b) ∙ goes.later.same_rack ∙ sym (name_behind rack (below_of a)) ∙ name_first (stop_words rack) (stop_none rack none) (stop_both rack both) (stop_after rack law) start (rack_of a) begun
 
-    pub rise : CountsRise (rack.counts (below_of a)) (rack.counts (below_of b))
-    rise = rises rack none both law (IsAnyCallBelow (boundaries_of a)) (below_of a) (below_of b) goes.made
+    pub rise : CountsRise ((stop_words rack).counts (below_of a)) ((stop_words rack).counts (below_of b))
+    rise = plain_rise rack (below_of a) (below_of b) no_first no_last goes.later.rise
 
     -- the members behind the array's own were left alone
     pub others : OthersKept (met_by met) opened.saved.table
     others q past =
         let line : boundaries_of a ≤ q / 2 = subst (λ (n : ℕ). n ≤ q / 2) (sym boundaries_are) past in
         let behind : (shape_of a).b ≤ q / 2 = subst (λ (n : ℕ). n ≤ q / 2) line_is.0 line in
-        same_both (rack.bytes (rack_in start) q) (rack.bytes (below_of a) q) (rack.bytes (below_of b) q)
-        (same_first rack none both law start (rack_of a) begun q (opened.others q behind))
-        (others_same rack none both law (boundaries_of a) (below_of a) (below_of b) goes.made q line)
+        same_both ((stop_words rack).bytes (rack_in start) q) ((stop_words rack).bytes (below_of a) q) ((stop_words rack).bytes (below_of b) q)
+        (same_first (stop_words rack) (stop_none rack none) (stop_both rack both) (stop_after rack law) start (rack_of a) begun q (opened.others q behind))
+        (told_by _ _ _ _ (sym (ap (λ (bytes : ℕ → Option (List ℕ)). bytes q) (plain_bytes rack (below_of a) no_first)))
+        (sym (ap (λ (bytes : ℕ → Option (List ℕ)). bytes q) (plain_bytes rack (below_of b) no_last))) (goes.later.others q line (plain_idle rack (below_of a) no_first q)).0.bytes)
 
     -- what it tells of each member of the saved array it tells of each of the first line's boundaries
-    told_end : TellsArray told_now opened.saved.table → TellsLine rack b
+    told_end : TellsArray told_now opened.saved.table → TellsLine (stop_words rack) b
     told_end told q below = told q (subst (λ (n : ℕ). q / 2 < n) (goes.boundaries ∙ boundaries_are) below)
 
     module _ (V : List (List ℕ)) (size : length V ≡ opened.saved.table.shape.n) where
       -- what its members may have held
-      abbrev was : Origin (LiveRack R)
-      was = were_held (record { table = volumes.table_of a.volume; members = opened.first; bytes = (live rack).bytes start; blocks = V })
+      abbrev was : Origin (LiveRack (StopRack R))
+      was = were_held (record { table = volumes.table_of a.volume; members = opened.first; bytes = (running rack).bytes start; blocks = V })
 
-      held_first : StandsFor opened.saved.table opened.first (rack.bytes (rack_in start)) V → WasHeld (live rack) was
-      held_first h = subst (λ (t : Table). StandsFor t opened.first ((live rack).bytes start) V) (sym opened.table)
-          (stands_by opened.saved.table opened.first (rack.bytes (rack_in start)) ((live rack).bytes start) V same h) where
-            same : (q : ℕ) → (opened.first q ≡ Out) ⊎ ((live rack).bytes start q ≡ rack.bytes (rack_in start) q)
+      held_first : StandsFor opened.saved.table opened.first ((stop_words rack).bytes (rack_in start)) V → WasHeld (running rack) was
+      held_first h = subst (λ (t : Table). StandsFor t opened.first ((running rack).bytes start) V) (sym opened.table)
+          (stands_by opened.saved.table opened.first ((stop_words rack).bytes (rack_in start)) ((running rack).bytes start) V same h) where
+            same : (q : ℕ) → (opened.first q ≡ Out) ⊎ ((running rack).bytes start q ≡ (stop_words rack).bytes (rack_in start) q)
             same q = elim (low_or_past q) [
-              | inl low ↦ inr (own_bytes rack start all_in q low)
+              | inl low ↦ inr (own_bytes (stop_words rack) start all_in q low)
               | inr past ↦ inl (out_first q past)
             ]
 
       -- where the blocks are known at the end, they are known of the array then, and when it was opened
-      known_end : IsKnown told_now (met_by met) (rack.counts (below_of a)) from V → KnownBy (WasHeld (live rack) was) rack b
+      known_end : IsKnown told_now (met_by met) ((stop_words rack).counts (below_of a)) from V → KnownBy (WasHeld (running rack) was) (stop_words rack) b
       known_end k = (told_end k.0, held_first k.1)
 
-      known_first : IsKnown told_now (met_by met) (rack.counts (below_of a)) from V → volumes.Known (WasHeld (live rack) was) (live rack) a.volume
-      known_first k = (told_volume rack none both law a ready (told_line rack none both law a b goes (told_end k.0)), held_first k.1)
+      known_first : IsKnown told_now (met_by met) ((stop_words rack).counts (below_of a)) from V → volumes.Known (WasHeld (running rack) was) (running rack) a.volume
+      known_first k = (told_volume (stop_words rack) (stop_none rack none) (stop_both rack both) (stop_after rack law) a ready (told_line rack none both law a b goes (told_end k.0)), held_first k.1)
 
       -- the state that the array is in, once it was opened
       pub record AtFirst : Type 0 where
         pub state : State
         pub blocks : state.blocks ≡ V
-        pub opens : Opens (volumes.Known (WasHeld (live rack) was) (live rack) a.volume) opened.taken None ((live rack).counts start) state
-        pub stands : volumes.StandsIn any_phase (live rack) (WasHeld (live rack) was) a.volume state
+        pub opens : Opens (volumes.Known (WasHeld (running rack) was) (running rack) a.volume) opened.taken None ((running rack).counts start) state
+        pub stands : volumes.StandsIn any_phase (running rack) (WasHeld (running rack) was) a.volume state
         pub recent : state.recent ≡ a.hot
 
       at_first : AtFirst
@@ -456,16 +470,16 @@ module _ {R : Type 0} (rack : Ghosts R) (none : (s : R) → rack.made s [] s) (b
 
       module _ (at : AtFirst) where
         abbrev state_below : State
-        state_below = record at.state { counts = rack.counts (below_of a) }
+        state_below = record at.state { counts = (stop_words rack).counts (below_of a) }
 
-        stands_first : StandsIn (live rack) (WasHeld (live rack) was) a at.state
+        stands_first : StandsIn (running rack) (WasHeld (running rack) was) a at.state
         stands_first = record {
           volume = at.stands;
           recent = at.recent;
           sized = ap length at.blocks ∙ size ∙ ap (λ (t : Table). t.shape.n) (sym opened.table) ∙ ap (λ (s : State). s.table.shape.n) (sym at.stands.is);
         }
 
-        opened_as : IsOpenedAs told_now (met_by met) (rack.counts (below_of a)) from V state_below
+        opened_as : IsOpenedAs told_now (met_by met) ((stop_words rack).counts (below_of a)) from V state_below
         opened_as = record {
           blocks = at.blocks;
           opens = opens_below known_first at.state (ap (λ (s : State). s.counts) at.stands.is) (ap (λ (s : State). s.members) at.stands.is) at.opens;
@@ -475,29 +489,29 @@ module _ {R : Type 0} (rack : Ghosts R) (none : (s : R) → rack.made s [] s) (b
         }
 
         -- with its own counts it is the state of the array
-        counts_back : record at.state { counts = (live rack).counts (rack_of a) } ≡ at.state
-        counts_back = ap (λ (s : State). record s { counts = (live rack).counts (rack_of a) }) at.stands.is ∙ sym at.stands.is
+        counts_back : record at.state { counts = (running rack).counts (rack_of a) } ≡ at.state
+        counts_back = ap (λ (s : State). record s { counts = (running rack).counts (rack_of a) }) at.stands.is ∙ sym at.stands.is
 
-        resumed_to : (events : List Event) (replies : List Reply) (final : Standing R) → Course rack (KnownBy (WasHeld (live rack) was) rack b) (standing_of a at.state) events replies final
-            → Resumed told_now met (rack.counts (below_of a)) from V events replies
+        resumed_to : (events : List Event) (replies : List Reply) (final : Standing (StopRack R)) → Course rack (KnownBy (WasHeld (running rack) was) (stop_words rack) b) (standing_of a at.state) events replies final
+            → Resumed told_now met ((stop_words rack).counts (below_of a)) from V events replies
         resumed_to events replies final course = record {
           state = state_below;
           is = opened_as;
-          first = (live rack).counts (rack_of a);
-          begun = subst (λ (l : List ℕ). AreCountsOf l (rack.counts (below_of a)) ((live rack).counts (rack_of a))) (sym (ap (λ (s : State). s.live) at.stands.is)) counts_opened;
+          first = (running rack).counts (rack_of a);
+          begun = subst (λ (l : List ℕ). AreCountsOf l ((stop_words rack).counts (below_of a)) ((running rack).counts (rack_of a))) (sym (ap (λ (s : State). s.live) at.stands.is)) counts_opened;
           final = on_pairs rack final;
-          history = subst (λ (s : State). History (IsKnown told_now (met_by met) (rack.counts (below_of a)) from V) plain (on_pairs rack (standing_of a s)) events replies (on_pairs rack final))
+          history = subst (λ (s : State). History (IsKnown told_now (met_by met) ((stop_words rack).counts (below_of a)) from V) plain (on_pairs rack (standing_of a s)) events replies (on_pairs rack final))
               (sym counts_back)
-              (history_of rack none both law _ (standing_of a at.state) events replies final (course_less rack known_end (standing_of a at.state) events replies final course));
+              (history_of rack none both law _ (standing_of a at.state) events replies final no_first (course_less rack known_end (standing_of a at.state) events replies final course));
         }
 
-      pub resumed : (events : List Event) (replies : List Reply) → RunsBefore rack a events replies b → Resumed told_now met (rack.counts (below_of a)) from V events replies
+      pub resumed : (events : List Event) (replies : List Reply) → RunsBefore rack a events replies b → Resumed told_now met ((stop_words rack).counts (below_of a)) from V events replies
       resumed events replies runs =
           let at = at_first in
           let one = runs was at.state (stands_first at) in
           resumed_to at events replies one.0 one.2
 
-      pub reached : (events : List Event) (replies : List Reply) → VolumeRunsTo rack a events replies b → Reached told_now met (rack.counts (below_of a)) from V events replies
+      pub reached : (events : List Event) (replies : List Reply) → VolumeRunsTo rack a events replies b → Reached told_now met ((stop_words rack).counts (below_of a)) from V events replies
       unfolding resumed_to
       reached events replies runs =
           let at = at_first in
@@ -511,54 +525,54 @@ module _ {R : Type 0} (rack : Ghosts R) (none : (s : R) → rack.made s [] s) (b
 -- ---- no array was opened
 
 module _ {R : Type 0} (rack : Ghosts R) (none : (s : R) → rack.made s [] s) (both : (a b c : R) (x y : List RackCall) → rack.made a x b → rack.made b y c → rack.made a (x ++ y) c)
-    (law : (a b : R) (made : List RackCall) → rack.made a made b → After rack made a b) (start now : LiveRack R) (all_in : live_in start ≡ all_live 16) (fresh : HasNoneAbsent start)
+    (law : (a b : R) (made : List RackCall) → rack.made a made b → After rack made a b) (start now : LiveRack (StopRack R)) (all_in : live_in start ≡ all_live 16) (fresh : HasNoneAbsent start)
     (left taken given : Option (List ℕ)) where
   abbrev told_still : ℕ → Type 0
-  told_still = rack.tells (rack_in now)
+  told_still = (stop_words rack).tells (rack_in now)
 
   abbrev pub met_still : Facts
   met_still = record {
-    before = rack.counts (rack_in start);
-    now = rack.counts (rack_in now);
-    images = rack.bytes (rack_in start);
-    bytes = rack.bytes (rack_in now);
+    before = (stop_words rack).counts (rack_in start);
+    now = (stop_words rack).counts (rack_in now);
+    images = (stop_words rack).bytes (rack_in start);
+    bytes = (stop_words rack).bytes (rack_in now);
     left = left;
     rest = left;
     taken = taken;
     given = given;
   }
 
-  pub name_still : LeavesRead (live rack) start now → rack.name (rack_in now) ≡ rack.name (rack_in start)
-  name_still leaves = name_first rack none both law start now (begun_of rack start now all_in fresh leaves.made)
+  pub name_still : LeavesRead (running rack) start now → (stop_words rack).name (rack_in now) ≡ (stop_words rack).name (rack_in start)
+  name_still leaves = name_first (stop_words rack) (stop_none rack none) (stop_both rack both) (stop_after rack law) start now (begun_of (stop_words rack) start now all_in fresh leaves.made)
 
-  looked : (found : ℕ → Option Found) → AreRead ((live rack).bytes now) ((live rack).counts start).faults ((live rack).counts now).faults found → LeavesRead (live rack) start now → HasLooked (met_by met_still)
+  looked : (found : ℕ → Option Found) → AreRead ((running rack).bytes now) ((running rack).counts start).faults ((running rack).counts now).faults found → LeavesRead (running rack) start now → HasLooked (met_by met_still)
   looked found read leaves =
-      let begun = begun_of rack start now all_in fresh leaves.made in
+      let begun = begun_of (stop_words rack) start now all_in fresh leaves.made in
       record {
         taken = found;
-        read = read_first rack none both law start now begun found read;
-        same = λ q. same_first rack none both law start now begun q (leaves.same q);
-        rise = rise_first rack none both law start now begun;
-        writes = writes_first rack none both law start now begun leaves.writes;
+        read = read_first (stop_words rack) (stop_none rack none) (stop_both rack both) (stop_after rack law) start now begun found read;
+        same = λ q. same_first (stop_words rack) (stop_none rack none) (stop_both rack both) (stop_after rack law) start now begun q (leaves.same q);
+        rise = rise_first (stop_words rack) (stop_none rack none) (stop_both rack both) (stop_after rack law) start now begun;
+        writes = writes_first (stop_words rack) (stop_none rack none) (stop_both rack both) (stop_after rack law) start now begun leaves.writes;
       }
 
-  found_no_state : FindsNoState (live rack) start now → FoundNoState (met_by met_still)
+  found_no_state : FindsNoState (running rack) start now → FoundNoState (met_by met_still)
   unfolding looked
   found_no_state h = record { looked = looked h.taken h.read h.leaves; none = h.none }
 
-  found_unclean : FindsUnclean (live rack) start now → FoundUnclean (met_by met_still)
+  found_unclean : FindsUnclean (running rack) start now → FoundUnclean (met_by met_still)
   unfolding looked
   found_unclean h = record { looked = looked h.taken h.read h.leaves; unclean = h.unclean }
 
   pub ends_no_state : (status : Status) → (status ≡ NoState) ⊎ (status ≡ WriteFault) → (status ≡ NoState → Told (Took nostate_text) taken given)
-      → (status ≡ WriteFault → Told (TookPart nostate_text) taken given) → FindsNoState (live rack) start now → EndsResume told_still met_still status
+      → (status ≡ WriteFault → Told (TookPart nostate_text) taken given) → FindsNoState (running rack) start now → EndsResume told_still met_still status
   ends_no_state status (inl is) all part found =
       subst (λ (s : Status). EndsResume told_still met_still s) (sym is) (refl, found_no_state found, all is)
   ends_no_state status (inr is) all part found =
       subst (λ (s : Status). EndsResume told_still met_still s) (sym is) (inl (refl, inl (found_no_state found, part is)))
 
   pub ends_unclean : (status : Status) → (status ≡ Unclean) ⊎ (status ≡ WriteFault) → (status ≡ Unclean → Told (Took unclean_text) taken given)
-      → (status ≡ WriteFault → Told (TookPart unclean_text) taken given) → FindsUnclean (live rack) start now → EndsResume told_still met_still status
+      → (status ≡ WriteFault → Told (TookPart unclean_text) taken given) → FindsUnclean (running rack) start now → EndsResume told_still met_still status
   ends_unclean status (inl is) all part found =
       subst (λ (s : Status). EndsResume told_still met_still s) (sym is) (refl, found_unclean found, all is)
   ends_unclean status (inr is) all part found =

@@ -12,8 +12,7 @@ use Rattle.dg_model.specs.Tables.{Table}
 use Rattle.dg_model.specs.declared.events.Event.{Event}
 use Rattle.dg_model.specs.declared.replies.Reply.{Reply}
 use Rattle.dg_model.specs.declared.shapes.Shape.{Shape}
-use Rattle.dg_regroup.specs.LiveGhosts.{live}
-use Rattle.dg_regroup.specs.LiveRacks.{HasNoneAbsent, live_in}
+use Rattle.dg_regroup.specs.LiveRacks.{HasNoneAbsent, live_in, rack_in}
 use Rattle.dg_regroup.specs.declared.live_racks.LiveRack.{LiveRack}
 use Rattle.dg_run.proofs.Broken.{up_to}
 use Rattle.dg_run.proofs.Inputs.{All-head, All-right}
@@ -25,11 +24,12 @@ use Rattle.dg_run.specs.Arrays.{IsOfReplay}
 use Rattle.dg_run.specs.Calls.{Facts, met_by}
 use Rattle.dg_run.specs.Endings.{GaveLines, LinesBrokeOff, LinesCut, LinesRanOut, StartsWith, StopsBefore}
 use Rattle.dg_run.specs.Events.{IsRefused}
-use Rattle.dg_run.specs.Histories.{Continues, RunsBefore, VolumeRunsTo, below_of}
+use Rattle.dg_run.specs.Histories.{Continues, Running, RunsBefore, VolumeRunsTo, below_of, running}
+use Rattle.dg_stop.specs.StopRacks.{stop_room, stop_words}
+use Rattle.dg_stop.specs.declared.stop_racks.StopRack.{StopRack}
 use Rattle.dg_run.specs.Lines.{AllServed, BeginsAll, RefusedBehind, RefusedInPart, ServedTo}
 use Rattle.dg_run.specs.Resumes.{AreLines, EndsResume, RanOn, ResumeCut, ResumeCutRefusal, ResumeDone, ResumeListed, ResumeWanted, StopsOn, WantedOn}
 use Rattle.dg_run.specs.Steps.{shape_of}
-use Rattle.dg_run.specs.declared.arrays.Array.{Array}
 use Rattle.dg_run.specs.declared.top.Status.{Status}
 use Rattle.dg_run.specs.declared.top.Status.TheVariants.{Done, Usage, BadLine, ReadFault, WriteFault, NoMemory, NoState, Unclean, Refused}
 use Rattle.dg_text.specs.Lines.{IsInPlace, input_of, line_of, longest}
@@ -59,17 +59,17 @@ module _ (shape : Shape) where
   }
 
 module _ {R : Type 0} (rack : Ghosts R) (none : (s : R) → rack.made s [] s) (both : (a b c : R) (x y : List RackCall) → rack.made a x b → rack.made b y c → rack.made a (x ++ y) c)
-    (law : (a b : R) (made : List RackCall) → rack.made a made b → After rack made a b) (start : LiveRack R) (all_in : live_in start ≡ all_live 16) (none_absent : HasNoneAbsent start)
-    (a b : Array (LiveRack R)) (opened : HasOpened (live rack) start a.volume a.hot) (goes : Continues rack a b) (unread kept : List ℕ) (fresh : unread ≡ []) (left rest taken given : Option (List ℕ)) where
+    (law : (a b : R) (made : List RackCall) → rack.made a made b → After rack made a b) (start : LiveRack (StopRack R)) (all_in : live_in start ≡ all_live 16) (none_absent : HasNoneAbsent start)
+    (a b : Running R) (opened : HasOpened (running rack) start a.volume a.hot) (goes : Continues rack a b) (no : stop_room (rack_in start) ≡ None) (unread kept : List ℕ) (fresh : unread ≡ []) (left rest taken given : Option (List ℕ)) where
   -- what was met of the rack below, what that tells in the end, and what the array was opened from
   abbrev pub facts : Facts
-  facts = met rack none both law start all_in none_absent a opened b goes left rest taken given
+  facts = met rack none both law start all_in none_absent a opened b goes no left rest taken given
 
   abbrev pub tells : ℕ → Type 0
-  tells = rack.tells (below_of b)
+  tells = (stop_words rack).tells (below_of b)
 
-  abbrev began : HasSource (met_by facts) (rack.counts (below_of a))
-  began = from rack none both law start all_in none_absent a opened b goes left rest taken given
+  abbrev began : HasSource (met_by facts) ((stop_words rack).counts (below_of a))
+  began = from rack none both law start all_in none_absent a opened b goes no left rest taken given
 
   abbrev pub first_left : Option (List ℕ)
   first_left = option_map (λ more. unread ++ more) left
@@ -84,22 +84,22 @@ module _ {R : Type 0} (rack : Ghosts R) (none : (s : R) → rack.made s [] s) (b
   abbrev ran_on : (events : List Event) (replies : List Reply) → All (IsInPlace (Some (shape_of a))) events → length (input_of events) ≤ 2 ^ 40 → VolumeRunsTo rack a events replies b
       → RanOn tells facts events replies
   ran_on events replies placed budget runs = record {
-    opened = rack.counts (below_of a);
+    opened = (stop_words rack).counts (below_of a);
     source = began;
-    rise = rise rack none both law start all_in none_absent a opened b goes left rest taken given;
-    others = others rack none both law start all_in none_absent a opened b goes left rest taken given;
+    rise = rise rack none both law start all_in none_absent a opened b goes no left rest taken given;
+    others = others rack none both law start all_in none_absent a opened b goes no left rest taken given;
     lines = lines_on events placed budget;
-    runs = λ V size. reached rack none both law start all_in none_absent a opened b goes left rest taken given V size events replies runs;
+    runs = λ V size. reached rack none both law start all_in none_absent a opened b goes no left rest taken given V size events replies runs;
   }
 
   abbrev wanted_on : (events : List Event) (replies : List Reply) → All (IsInPlace (Some (shape_of a))) events → length (input_of events) ≤ 2 ^ 40 → RunsBefore rack a events replies b
       → WantedOn tells facts events replies
   wanted_on events replies placed budget runs = record {
-    opened = rack.counts (below_of a);
+    opened = (stop_words rack).counts (below_of a);
     source = began;
-    rise = rise rack none both law start all_in none_absent a opened b goes left rest taken given;
+    rise = rise rack none both law start all_in none_absent a opened b goes no left rest taken given;
     lines = lines_on events placed budget;
-    runs = λ V size. resumed rack none both law start all_in none_absent a opened b goes left rest taken given V size events replies runs;
+    runs = λ V size. resumed rack none both law start all_in none_absent a opened b goes no left rest taken given V size events replies runs;
   }
 
   served_to : (number : ℕ) (kind : Kind) (z w : Option (List ℕ)) → (s : ServedTo rack (shape_of a) 0 1 number kind first_left last_left z w a b)

@@ -4,17 +4,16 @@ use Rattle.std.specs.Prelude.{false, Option, Some, None, All, Result, Ok, Err, I
 use Rattle.std.proofs.lemmas.List.{append_cancel_left}
 use Rattle.std.proofs.lemmas.List.Concat.{flat_map-append}
 use Rattle.dg_model.specs.Shapes.{IsShape}
-use Rattle.dg_model.specs.Moments.{HistoryOf, Moment}
+use Rattle.dg_model.specs.Moments.{HistoryOf, Makes, Moment}
+use Rattle.dg_model.specs.Moments.Kind.{plain}
 use Rattle.dg_model.specs.States.{Counts, State, plain_state}
-use Rattle.dg_io.specs.Makes.{Makes}
-use Rattle.dg_io.specs.MakesLaws.{makes_both, makes_such}
+use Rattle.dg_io.specs.MakesLaws.{makes_such}
 use Rattle.dg_io.specs.RackCalls.{RackCall}
 use Rattle.dg_io.specs.RackWords.{After}
 use Rattle.dg_io.specs.declared.outside.Rack.{Ghosts}
-use Rattle.dg_regroup.specs.declared.live_racks.LiveRack.{LiveRack}
-use Rattle.dg_run.proofs.Continuing.{others_counts, others_same}
-use Rattle.dg_run.proofs.Happening.{course_less, history_of, holds_in_use, makes_less, weaker_runs}
-use Rattle.dg_run.specs.Histories.{Continues, IsBlankReady, KnownBy, RunsBefore, VolumeRunsTo, below_of, boundaries_of, on_pairs, standing_of}
+use Rattle.dg_run.proofs.Happening.{course_less, history_of, holds_in_use, weaker_runs}
+use Rattle.dg_run.proofs.Laters.{later_both, later_made}
+use Rattle.dg_run.specs.Histories.{Continues, IsBlankReady, KnownBy, Later, Running, RunsBefore, VolumeRunsTo, below_of, boundaries_of, on_pairs, standing_of}
 use Rattle.dg_run.specs.Steps.{shape_of}
 use Rattle.dg_store.specs.Leaves.{IsAnyCallBelow, IsCallOrBlankBelow}
 use Rattle.dg_store.specs.ReadLaws.{any_of_blank}
@@ -26,7 +25,10 @@ use Rattle.dg_model.specs.declared.replies.Reply.TheVariants.{Done}
 use Rattle.dg_model.specs.declared.members.MemberState.TheVariants.{Out}
 use Rattle.dg_io.specs.MadeLaws.{same_told}
 use Rattle.dg_io.specs.Told.{Told, Took, TookPart}
-use Rattle.dg_run.specs.declared.arrays.Array.{Array}
+use Rattle.dg_stop.specs.StopCalls.{behind}
+use Rattle.dg_stop.specs.StopRacks.{stop_words}
+use Rattle.dg_stop.specs.Ties.{plain_bytes, plain_counts, plain_rise, told_behind}
+use Rattle.dg_stop.specs.declared.stop_racks.StopRack.TheVariants.{Plain}
 use Rattle.dg_text.specs.Lines.{AreInPlace, line_of, input_of, IsInPlace}
 use Rattle.dg_text.specs.Replies.{reply_line, output_of, refusal}
 use Rattle.dg_text.specs.declared.lines.BadLine.{BadLine as Kind}
@@ -35,7 +37,7 @@ use Rattle.dg_run.specs.Events.{Begins, IsRefused}
 use Rattle.dg_run.specs.Lines.{Served, ServedTo}
 use Rattle.dg_run.specs.Endings.{TookUpTo}
 use Rattle.dg_run.specs.Refusals.{IsRefusedBy}
-use Rattle.dg_run.specs.Replays.{CutRefusal, IsCut, IsNoInput, OthersKept, Ran, ReplayedBy, Stopped, StoppedBy, StopsAt, TellsBoundaries, shape_after}
+use Rattle.dg_run.specs.Replays.{CutRefusal, HoldsInUse, IsCut, IsNoInput, OthersKept, Ran, ReplayedBy, Stopped, StoppedBy, StopsAt, TellsBoundaries, shape_after}
 use Rattle.dg_run.specs.Arrays.{AllAnswered, AnsweredTo, ArrayReplayed, ArrayStopped, IsCutAt}
 use Rattle.dg_run.proofs.Inputs.{All-head, All-right, no_line}
 use Rattle.dg_volume.specs.Origins.{Always}
@@ -52,7 +54,7 @@ pub took_last : (text last : List ℕ) (t m v : Option (List ℕ)) → Told (Too
 took_last text last t m v p q = Told-then _ _ (Took (text ++ last)) (λ a b c f s. s ∙ ap (λ (l : List ℕ). l ++ last) f ∙ append_assoc a text last) t m v p q
 
 -- Behind a first line that made an array the replies are those of a run that means something, from that line on.
-pub record Meant {R : Type 0} (ghosts : Ghosts R) (Means : List Event → List Reply → Type 0) (make : Event) (shape : Shape) (first : ℕ) (a b : Array (LiveRack R)) : Type 0 where
+pub record Meant {R : Type 0} (ghosts : Ghosts R) (Means : List Event → List Reply → Type 0) (make : Event) (shape : Shape) (first : ℕ) (a b : Running R) : Type 0 where
   pub size : first ≡ length (line_of make)
   pub shape_is : shape_of a ≡ shape
   pub makes : (events : List Event) → shape_after (make ∷ events) ≡ Some shape
@@ -67,7 +69,7 @@ first_in_place event events placed = absurd placed
 
 module _ {R : Type 0} (ghosts : Ghosts R) (none : (s : R) → ghosts.made s [] s)
     (both : (a b c : R) (x y : List RackCall) → ghosts.made a x b → ghosts.made b y c → ghosts.made a (x ++ y) c) (law : (a b : R) (made : List RackCall) → ghosts.made a made b → After ghosts made a b)
-    (Means : List Event → List Reply → Type 0) (make : Event) (shape : Shape) (first : ℕ) (a b : Array (LiveRack R)) (m : Meant ghosts Means make shape first a b) where
+    (Means : List Event → List Reply → Type 0) (make : Event) (shape : Shape) (first : ℕ) (a b : Running R) (m : Meant ghosts Means make shape first a b) where
   whole_runs : (events : List Event) (x z t v : Option (List ℕ)) → (served : Served ghosts (shape_of a) events x z t v a b) → first + length (input_of events) ≤ 2 ^ 40
       → Means (make ∷ events) (Done ∷ served.replies)
   whole_runs events x z t v served budget = m.runs events served.replies (weaker_runs ghosts none both law a b events served.replies served.runs) served.in_place budget
@@ -169,25 +171,28 @@ module _ (Means : List Event → List Reply → Type 0) (make : Event) (shape : 
     output = subst (λ (n : ℕ). Told (Took (output_of (Done ∷ rest.replies) ++ refusal n rest.kind)) t v) (omega arith) rest.output;
   }
 
--- ---- an array of mirrored pairs
+-- ---- an array over a plain rack
 
 module _ {R : Type 0} (ghosts : Ghosts R) (none : (s : R) → ghosts.made s [] s)
     (both : (a b c : R) (x y : List RackCall) → ghosts.made a x b → ghosts.made b y c → ghosts.made a (x ++ y) c) (law : (a b : R) (made : List RackCall) → ghosts.made a made b → After ghosts made a b)
-    (shape : Shape) (first : ℕ) (rack : R) (a b : Array (LiveRack R)) (is : first ≡ length (line_of (MakeArray shape))) (well : IsShape shape)
-    (blank : IsBlankReady ghosts shape rack a) (goes : Continues ghosts a b) where
-  -- the calls from the first line on
-  pub made_all : Makes ghosts (IsAnyCallBelow shape.b) rack (below_of b)
-  made_all = makes_both ghosts (IsAnyCallBelow shape.b) rack (below_of a) (below_of b)
-      (makes_such ghosts (IsCallOrBlankBelow shape.b) (IsAnyCallBelow shape.b) (any_of_blank shape.b) rack (below_of a) blank.made)
-      (subst (λ (n : ℕ). Makes ghosts (IsAnyCallBelow n) (below_of a) (below_of b)) blank.boundaries goes.made)
+    (shape : Shape) (first : ℕ) (rack : R) (a b : Running R) (is : first ≡ length (line_of (MakeArray shape))) (well : IsShape shape)
+    (blank : IsBlankReady ghosts shape (Plain rack) a) (goes : Continues ghosts a b) where
+  -- what became of the rack in the first line, and from then on
+  later_first : Later ghosts shape.b (Plain rack) (below_of a)
+  later_first = later_made ghosts none both law shape.b (Plain rack) (below_of a)
+      (makes_such (stop_words ghosts) (IsCallOrBlankBelow shape.b) (IsAnyCallBelow shape.b) (any_of_blank shape.b) (Plain rack) (below_of a) blank.made)
+
+  pub later_all : Later ghosts shape.b (Plain rack) (below_of b)
+  later_all = later_both ghosts none both law shape.b (Plain rack) (below_of a) (below_of b) later_first
+      (subst (λ (n : ℕ). Later ghosts n (below_of a) (below_of b)) blank.boundaries goes.later)
 
   -- the members behind the first line's boundaries were left alone
-  others_kept : OthersKept (boundaries_of b) (ghosts.counts rack) (ghosts.counts (below_of b)) (ghosts.bytes rack) (ghosts.bytes (below_of b))
+  others_kept : OthersKept (boundaries_of b) (ghosts.counts rack) (ghosts.counts (behind (below_of b))) (ghosts.bytes rack) (ghosts.bytes (behind (below_of b)))
   others_kept =
       let line : boundaries_of b ≡ shape.b = goes.boundaries ∙ blank.boundaries in
       record {
-        held = λ q past. others_same ghosts none both law shape.b rack (below_of b) made_all q (subst (λ (n : ℕ). n ≤ q / 2) line past);
-        faults = λ q past. others_counts ghosts none both law shape.b rack (below_of b) made_all q (subst (λ (n : ℕ). n ≤ q / 2) line past);
+        held = λ q past. (later_all.others q (subst (λ (n : ℕ). n ≤ q / 2) line past) refl).0.bytes;
+        faults = λ q past. (later_all.others q (subst (λ (n : ℕ). n ≤ q / 2) line past) refl).0.faults;
       }
 
   -- events behind the first line are in their places from there on, and keep to the budget
@@ -198,21 +203,36 @@ module _ {R : Type 0} (ghosts : Ghosts R) (none : (s : R) → ghosts.made s [] s
   all_in_budget events budget = omega (arith, is, budget, length-append (line_of (MakeArray shape)) (input_of events))
 
   -- what is known of a final state
-  told_in : (final : State) → final.boundaries ≡ boundaries_of b → TellsBoundaries (ghosts.tells (below_of b)) final → KnownBy Always ghosts b
-  told_in final line told = ((λ q below. told q (subst (λ (n : ℕ). q / 2 < n) (sym line) below)), tt)
+  told_in : (final : State) → final.boundaries ≡ boundaries_of b → TellsBoundaries (ghosts.tells (behind (below_of b))) final → KnownBy Always (stop_words ghosts) b
+  told_in final line told = ((λ q below. told_behind ghosts (below_of b) q (told q (subst (λ (n : ℕ). q / 2 < n) (sym line) below))), tt)
+
+  -- the blank array
+  makes : (K : Type 0) → Makes K plain (MakeArray shape) shape (ghosts.counts rack) (on_pairs ghosts (standing_of a blank.state))
+  makes K = record {
+    first = blank.first;
+    is_blank = blank.is_blank;
+    begun = λ same. blank.begun;
+    rise = plain_rise ghosts (Plain rack) (below_of a) refl later_first.room later_first.rise;
+    tied = blank.tied;
+  }
 
   -- the history of a run, of which it isn't told what the array stands for now
   pub led_of : (events : List Event) (replies : List Reply) → RunsBefore ghosts a events replies b
-      → (final : Moment) × HistoryOf (TellsBoundaries (ghosts.tells (below_of b)) final.state) (ghosts.counts rack) (MakeArray shape ∷ events) (Done ∷ replies) final
+      → (final : Moment) × HistoryOf (TellsBoundaries (ghosts.tells (behind (below_of b))) final.state) (ghosts.counts rack) (MakeArray shape ∷ events) (Done ∷ replies) final
   led_of events replies runs =
       let W = runs nothing blank.state blank.stands in
       let start = standing_of a blank.state in (
         on_pairs ghosts W.0,
-        (on_pairs ghosts start, makes_less (λ k. tt) blank.makes, history_of ghosts none both law _ start events replies W.0 (course_less ghosts (told_in W.0.state W.1) start events replies W.0 W.2)),
+        (
+          on_pairs ghosts start,
+          makes _,
+          history_of ghosts none both law _ start events replies W.0 later_first.room (course_less ghosts (told_in W.0.state W.1) start events replies W.0 W.2),
+        ),
       )
 
   pub ran_of : (events : List Event) (replies : List Reply) → VolumeRunsTo ghosts a events replies b → All (IsInPlace (Some (shape_of a))) events → first + length (input_of events) ≤ 2 ^ 40
-      → Ran (ghosts.counts rack) (ghosts.counts (below_of b)) (ghosts.bytes rack) (ghosts.bytes (below_of b)) (ghosts.tells (below_of b)) (MakeArray shape ∷ events) (Done ∷ replies)
+      → Ran (ghosts.counts rack) (ghosts.counts (behind (below_of b))) (ghosts.bytes rack) (ghosts.bytes (behind (below_of b))) (ghosts.tells (behind (below_of b))) (MakeArray shape ∷ events)
+      (Done ∷ replies)
   ran_of events replies runs placed budget =
       let W = runs nothing blank.state blank.stands in
       let start = standing_of a blank.state in
@@ -222,13 +242,19 @@ module _ {R : Type 0} (ghosts : Ghosts R) (none : (s : R) → ghosts.made s [] s
         in_place = all_in_place events placed;
         budget = all_in_budget events budget;
         final = on_pairs ghosts final;
-        history = (on_pairs ghosts start, makes_less (λ k. tt) blank.makes, history_of ghosts none both law _ start events replies final (course_less ghosts (told_in W.next line) start events replies final W.course));
-        holds = λ told. holds_in_use ghosts none both law b W.next goes.ready W.stands (let k = told_in W.next line told in (k.0, W.known k.0 k.1));
-        others = subst (λ (n : ℕ). OthersKept n (ghosts.counts rack) (ghosts.counts (below_of b)) (ghosts.bytes rack) (ghosts.bytes (below_of b))) (sym line) others_kept;
-        counts = refl;
+        history = (
+          on_pairs ghosts start,
+          makes _,
+          history_of ghosts none both law _ start events replies final later_first.room (course_less ghosts (told_in W.next line) start events replies final W.course),
+        );
+        holds = λ told. subst (λ (bytes : ℕ → Option (List ℕ)). HoldsInUse bytes W.next) (plain_bytes ghosts (below_of b) later_all.room)
+            (holds_in_use ghosts none both law b W.next goes.ready W.stands (let k = told_in W.next line told in (k.0, W.known k.0 k.1)));
+        others = subst (λ (n : ℕ). OthersKept n (ghosts.counts rack) (ghosts.counts (behind (below_of b))) (ghosts.bytes rack) (ghosts.bytes (behind (below_of b)))) (sym line) others_kept;
+        counts = plain_counts ghosts (below_of b) later_all.room;
       }
 
-  pub meant : Meant ghosts (Ran (ghosts.counts rack) (ghosts.counts (below_of b)) (ghosts.bytes rack) (ghosts.bytes (below_of b)) (ghosts.tells (below_of b))) (MakeArray shape) shape first a b
+  pub meant : Meant ghosts (Ran (ghosts.counts rack) (ghosts.counts (behind (below_of b))) (ghosts.bytes rack) (ghosts.bytes (behind (below_of b))) (ghosts.tells (behind (below_of b))))
+      (MakeArray shape) shape first a b
   meant = record { size = is; shape_is = blank.shape_is; makes = λ events. refl; runs = ran_of }
 
 unmade : Counts → Moment

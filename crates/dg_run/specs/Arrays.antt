@@ -6,8 +6,6 @@ use Rattle.dg_model.specs.declared.events.Event.{Event}
 use Rattle.dg_model.specs.declared.replies.Reply.{Reply}
 use Rattle.dg_model.specs.declared.replies.Reply.TheVariants.{Done}
 use Rattle.dg_io.specs.Told.{Told, Took, TookPart}
-use Rattle.dg_run.specs.declared.arrays.Array.{Array}
-use Rattle.dg_regroup.specs.declared.live_racks.LiveRack.{LiveRack}
 use Rattle.dg_text.specs.Lines.{input_of, IsInPlace}
 use Rattle.dg_text.specs.Replies.{reply_line, output_of, refusal}
 use Rattle.dg_text.specs.declared.lines.BadLine.{BadLine as Kind}
@@ -19,13 +17,13 @@ use Rattle.dg_run.specs.declared.top.Status.{Status}
 use Rattle.dg_run.specs.declared.top.Status.TheVariants.{Done as status_done, Usage, BadLine, ReadFault, WriteFault, NoMemory, NoState, Unclean, Refused}
 
 -- the array was answered, and all lines behind the first one were served
-pub record AllAnswered {R : Type 0} (rack : Ghosts R) (shape : Shape) (first : ℕ) (left rest taken given : Option (List ℕ)) (old new : Array (LiveRack R)) : Type 0 where
+pub record AllAnswered {R : Type 0} (rack : Ghosts R) (shape : Shape) (first : ℕ) (left rest taken given : Option (List ℕ)) (old new : Running R) : Type 0 where
   pub middle : Option (List ℕ)
   pub ok : Told (Took (reply_line Done)) taken middle
   pub served : AllServed rack shape first left rest middle given old new
 
 -- the array was answered, lines behind the first one were served, and the next one was refused
-pub record AnsweredTo {R : Type 0} (rack : Ghosts R) (shape : Shape) (first : ℕ) (left rest taken given : Option (List ℕ)) (old new : Array (LiveRack R)) : Type 0 where
+pub record AnsweredTo {R : Type 0} (rack : Ghosts R) (shape : Shape) (first : ℕ) (left rest taken given : Option (List ℕ)) (old new : Running R) : Type 0 where
   pub middle : Option (List ℕ)
   pub before : Option (List ℕ)
   pub number : ℕ
@@ -35,7 +33,7 @@ pub record AnsweredTo {R : Type 0} (rack : Ghosts R) (shape : Shape) (first : �
   pub refused : Told (Took (refusal number kind)) before given
 
 -- the same, but the refusal was written in part
-pub record AnsweredToPart {R : Type 0} (rack : Ghosts R) (shape : Shape) (first : ℕ) (left rest taken given : Option (List ℕ)) (old new : Array (LiveRack R)) : Type 0 where
+pub record AnsweredToPart {R : Type 0} (rack : Ghosts R) (shape : Shape) (first : ℕ) (left rest taken given : Option (List ℕ)) (old new : Running R) : Type 0 where
   pub middle : Option (List ℕ)
   pub before : Option (List ℕ)
   pub number : ℕ
@@ -45,13 +43,13 @@ pub record AnsweredToPart {R : Type 0} (rack : Ghosts R) (shape : Shape) (first 
   pub refused : Told (TookPart (refusal number kind)) before given
 
 -- The sink failed behind a first line that made the array: at its answer, at the reply to a later line, or at the refusal of one.
-abbrev pub ArrayCut : {R : Type 0} → Ghosts R → Shape → ℕ → Option (List ℕ) → Option (List ℕ) → Option (List ℕ) → Option (List ℕ) → Option (List ℕ) → Array (LiveRack R) → Array (LiveRack R) → Type 0
+abbrev pub ArrayCut : {R : Type 0} → Ghosts R → Shape → ℕ → Option (List ℕ) → Option (List ℕ) → Option (List ℕ) → Option (List ℕ) → Option (List ℕ) → Running R → Running R → Type 0
 ArrayCut rack shape first left ahead rest taken given old new =
     (Told (TookPart (reply_line Done)) taken given × (new ≡ old) × Told AreAny left rest)
     ⊎ (LinesCut rack (reply_line Done) shape first left rest taken given old new ⊎ AnsweredToPart rack shape first left ahead taken given old new)
 
 -- memory was wanting behind such a line: for the array, or for a later line
-abbrev pub ArrayRanOut : {R : Type 0} → Ghosts R → Shape → ℕ → Option (List ℕ) → Option (List ℕ) → Option (List ℕ) → Option (List ℕ) → Array (LiveRack R) → Array (LiveRack R) → Type 0
+abbrev pub ArrayRanOut : {R : Type 0} → Ghosts R → Shape → ℕ → Option (List ℕ) → Option (List ℕ) → Option (List ℕ) → Option (List ℕ) → Running R → Running R → Type 0
 ArrayRanOut rack shape first left rest taken given old new =
     ((given ≡ taken) × Told AreAny left rest) ⊎ LinesRanOut rack (reply_line Done) shape first left rest taken given old new
 

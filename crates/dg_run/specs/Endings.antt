@@ -5,12 +5,10 @@ use Rattle.dg_io.specs.Told.{Told, Took}
 use Rattle.dg_model.specs.declared.shapes.Shape.{Shape}
 use Rattle.dg_model.specs.declared.events.Event.{Event}
 use Rattle.dg_model.specs.declared.replies.Reply.{Reply}
-use Rattle.dg_regroup.specs.declared.live_racks.LiveRack.{LiveRack}
-use Rattle.dg_run.specs.declared.arrays.Array.{Array}
 use Rattle.dg_text.specs.Lines.{line_of, input_of, longest, IsInPlace}
 use Rattle.dg_text.specs.Replies.{output_of, reply_line}
 use Rattle.dg_run.specs.Bytes.{HasNoLineFeed}
-use Rattle.dg_run.specs.Histories.{EventCut, EventDone, EventListed, RunsBefore, RunsTo, VolumeRunsTo}
+use Rattle.dg_run.specs.Histories.{EventCut, EventDone, EventListed, RunsBefore, RunsTo, VolumeRunsTo, Running}
 use Rattle.dg_run.specs.Inputs.{AwaitsLine}
 use Rattle.dg_run.specs.Steps.{BeginsLines, NotesFile}
 
@@ -37,7 +35,7 @@ pub record TookUpTo (whole part before after : List ℕ) : Type 0 where
   pub is : after ≡ before ++ (whole ++ take n part)
 
 -- one line was taken, of no more bytes than the room, its event was done, and a part of its reply was written
-pub record ServedLinePart {R : Type 0} (rack : Ghosts R) (shape : Shape) (room : ℕ) (left rest taken given : Option (List ℕ)) (old new : Array (LiveRack R)) : Type 0 where
+pub record ServedLinePart {R : Type 0} (rack : Ghosts R) (shape : Shape) (room : ℕ) (left rest taken given : Option (List ℕ)) (old new : Running R) : Type 0 where
   pub event : Event
   pub in_place : IsInPlace (Some shape) event
   pub within : length (line_of event) ≤ room
@@ -45,7 +43,7 @@ pub record ServedLinePart {R : Type 0} (rack : Ghosts R) (shape : Shape) (room :
   pub answered : EventCut rack event taken given old new
 
 -- one line was taken, of no more bytes than the room, and memory was wanting for its event
-pub record WantedLine {R : Type 0} (rack : Ghosts R) (shape : Shape) (room : ℕ) (left rest taken given : Option (List ℕ)) (old now : Array (LiveRack R)) : Type 0 where
+pub record WantedLine {R : Type 0} (rack : Ghosts R) (shape : Shape) (room : ℕ) (left rest taken given : Option (List ℕ)) (old now : Running R) : Type 0 where
   pub event : Event
   pub in_place : IsInPlace (Some shape) event
   pub within : length (line_of event) ≤ room
@@ -54,12 +52,12 @@ pub record WantedLine {R : Type 0} (rack : Ghosts R) (shape : Shape) (room : ℕ
 
 -- Memory was wanting for a line: one that has no more bytes than the longest and than the room is next, and nothing of a reply was written; or
 -- the whole one was, or the first entries of a listing.
-abbrev pub RanOutAt : {R : Type 0} → Ghosts R → Shape → ℕ → Option (List ℕ) → Option (List ℕ) → Option (List ℕ) → Option (List ℕ) → Array (LiveRack R) → Array (LiveRack R) → Type 0
+abbrev pub RanOutAt : {R : Type 0} → Ghosts R → Shape → ℕ → Option (List ℕ) → Option (List ℕ) → Option (List ℕ) → Option (List ℕ) → Running R → Running R → Type 0
 RanOutAt rack shape room left rest taken given old now =
     (Told (AwaitsLine (longest (Some shape)) room) left rest × (given ≡ taken)) ⊎ WantedLine rack shape room left rest taken given old now
 
 -- all lines that the source gave whole were served, and then it failed. `front` was written before their replies
-pub record LinesBrokeOff {R : Type 0} (rack : Ghosts R) (front : List ℕ) (shape : Shape) (first : ℕ) (left rest taken given : Option (List ℕ)) (old new : Array (LiveRack R)) : Type 0 where
+pub record LinesBrokeOff {R : Type 0} (rack : Ghosts R) (front : List ℕ) (shape : Shape) (first : ℕ) (left rest taken given : Option (List ℕ)) (old new : Running R) : Type 0 where
   pub events : List Event
   pub replies : List Reply
   pub in_place : All (IsInPlace (Some shape)) events
@@ -69,7 +67,7 @@ pub record LinesBrokeOff {R : Type 0} (rack : Ghosts R) (front : List ℕ) (shap
   pub output : Told (Took (front ++ output_of replies)) taken given
 
 -- lines were served, and of the last reply only a part was written
-pub record LinesCut {R : Type 0} (rack : Ghosts R) (front : List ℕ) (shape : Shape) (first : ℕ) (left rest taken given : Option (List ℕ)) (old new : Array (LiveRack R)) : Type 0 where
+pub record LinesCut {R : Type 0} (rack : Ghosts R) (front : List ℕ) (shape : Shape) (first : ℕ) (left rest taken given : Option (List ℕ)) (old new : Running R) : Type 0 where
   pub events : List Event
   pub replies : List Reply
   pub last : Reply
@@ -80,7 +78,7 @@ pub record LinesCut {R : Type 0} (rack : Ghosts R) (front : List ℕ) (shape : S
   pub output : Told (TookUpTo (front ++ output_of replies) (reply_line last)) taken given
 
 -- lines were served, and memory was wanting for the next one, which has no more bytes than the longest and than what is left of the budget
-pub record LinesWanted {R : Type 0} (rack : Ghosts R) (front : List ℕ) (shape : Shape) (first : ℕ) (left rest taken given : Option (List ℕ)) (old new : Array (LiveRack R)) : Type 0 where
+pub record LinesWanted {R : Type 0} (rack : Ghosts R) (front : List ℕ) (shape : Shape) (first : ℕ) (left rest taken given : Option (List ℕ)) (old new : Running R) : Type 0 where
   pub events : List Event
   pub replies : List Reply
   pub in_place : All (IsInPlace (Some shape)) events
@@ -90,7 +88,7 @@ pub record LinesWanted {R : Type 0} (rack : Ghosts R) (front : List ℕ) (shape 
   pub output : Told (Took (front ++ output_of replies)) taken given
 
 -- lines were served, the last of which asks for a file, and memory was wanting to note that it was read
-pub record LinesDone {R : Type 0} (rack : Ghosts R) (front : List ℕ) (shape : Shape) (first : ℕ) (left rest taken given : Option (List ℕ)) (old new : Array (LiveRack R)) : Type 0 where
+pub record LinesDone {R : Type 0} (rack : Ghosts R) (front : List ℕ) (shape : Shape) (first : ℕ) (left rest taken given : Option (List ℕ)) (old new : Running R) : Type 0 where
   pub events : List Event
   pub last : Event
   pub replies : List Reply
@@ -102,7 +100,7 @@ pub record LinesDone {R : Type 0} (rack : Ghosts R) (front : List ℕ) (shape : 
   pub output : Told (Took (front ++ output_of replies)) taken given
 
 -- lines were served, and of a listing that may answer the last one only the first lines were written
-pub record LinesListed {R : Type 0} (rack : Ghosts R) (front : List ℕ) (shape : Shape) (first : ℕ) (left rest taken given : Option (List ℕ)) (old new : Array (LiveRack R)) : Type 0 where
+pub record LinesListed {R : Type 0} (rack : Ghosts R) (front : List ℕ) (shape : Shape) (first : ℕ) (left rest taken given : Option (List ℕ)) (old new : Running R) : Type 0 where
   pub events : List Event
   pub replies : List Reply
   pub last : Event
@@ -116,7 +114,7 @@ pub record LinesListed {R : Type 0} (rack : Ghosts R) (front : List ℕ) (shape 
   pub output : Told (Took (front ++ (output_of replies ++ text))) taken given
 
 -- memory was wanting behind lines that were served: for the next line, behind a file's bytes, or within a listing, to the end of an entry
-abbrev pub LinesRanOut : {R : Type 0} → Ghosts R → List ℕ → Shape → ℕ → Option (List ℕ) → Option (List ℕ) → Option (List ℕ) → Option (List ℕ) → Array (LiveRack R) → Array (LiveRack R) → Type 0
+abbrev pub LinesRanOut : {R : Type 0} → Ghosts R → List ℕ → Shape → ℕ → Option (List ℕ) → Option (List ℕ) → Option (List ℕ) → Option (List ℕ) → Running R → Running R → Type 0
 LinesRanOut rack front shape first left rest taken given old new =
     LinesWanted rack front shape first left rest taken given old new
     ⊎ (LinesDone rack front shape first left rest taken given old new ⊎ LinesListed rack front shape first left rest taken given old new)

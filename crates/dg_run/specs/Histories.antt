@@ -1,15 +1,12 @@
 -- An array of the boundaries in use beside the model's moments: the state that it is in, and the rack that these boundaries stand on.
 use Rattle.std.specs.Prelude.{◌≡◌, ◌⊎◌, ◌<◌, ◌≤◌, ◌/◌, ◌∷◌, [], ℕ, false, List, Option, length, slice_index}
 use Rattle.dg_io.specs.Makes.{Makes}
-use Rattle.dg_io.specs.RackCalls.{RackCall}
 use Rattle.dg_io.specs.Told.{StillTold, Told, Took, TookPart}
 use Rattle.dg_io.specs.declared.outside.Rack.{Ghosts}
 use Rattle.dg_model.specs.Lives.{all_live}
-use Rattle.dg_model.specs.Moments.{Makes as MakesArray, Moment}
-use Rattle.dg_model.specs.Moments.Kind.{plain}
-use Rattle.dg_model.specs.States.{State}
+use Rattle.dg_model.specs.Moments.{AreCountsOf, Moment}
+use Rattle.dg_model.specs.States.{Counts, CountsRise, IsBlank, State}
 use Rattle.dg_model.specs.declared.events.Event.{Event}
-use Rattle.dg_model.specs.declared.events.Event.TheVariants.{Array as MakeArray}
 use Rattle.dg_model.specs.declared.replies.Reply.{Reply}
 use Rattle.dg_model.specs.declared.shapes.Shape.{Shape}
 use Rattle.dg_regroup.specs.LivePassing.{own_calls, own_writes}
@@ -19,7 +16,11 @@ use Rattle.dg_regroup.specs.declared.live_racks.LiveRack.{LiveRack}
 use Rattle.dg_run.specs.Courses.{Course, Standing}
 use Rattle.dg_run.specs.Steps.{BeginsLines, IsSound, NotesFile, StandsIn, rack_of, shape_of}
 use Rattle.dg_run.specs.declared.arrays.Array.{Array}
-use Rattle.dg_store.specs.Leaves.{IsAnyCallBelow, IsCallOrBlankBelow}
+use Rattle.dg_stop.specs.Doubles.{LeavesAlone}
+use Rattle.dg_stop.specs.StopCalls.{behind}
+use Rattle.dg_stop.specs.StopRacks.{stop_bytes, stop_counts, stop_room, stop_stands_in, stop_words}
+use Rattle.dg_stop.specs.declared.stop_racks.StopRack.{StopRack}
+use Rattle.dg_store.specs.Leaves.{IsCallOrBlankBelow}
 use Rattle.dg_text.specs.Replies.{reply_line}
 use Rattle.dg_volume.specs.Origins.{Origin, WasHeld}
 use Rattle.dg_volume.specs.Origins.Origin.{nothing}
@@ -50,7 +51,7 @@ KnownBy P rack array = TellsLine rack array × P
 
 -- What holds between events: all is well with the array, its boundaries in use are the first of its rack, which has all 16 that there may be as long as
 -- none was taken out of use; and no call was made on a member that isn't there.
-pub record IsReady {R : Type 0} (rack : Ghosts R) (array : Array (LiveRack R)) : Type 0 where
+pub record IsReadyOn {R : Type 0} (rack : Ghosts R) (array : Array (LiveRack R)) : Type 0 where
   pub sound : IsSound (live rack) array
   pub longer : length (live_of array) ≤ length (live_in (rack_of array))
   pub places : (x : ℕ) → x < length (live_of array) → slice_index (live_in (rack_of array)) x ≡ slice_index (live_of array) x
@@ -58,18 +59,34 @@ pub record IsReady {R : Type 0} (rack : Ghosts R) (array : Array (LiveRack R)) :
   pub calls : own_calls (rack_of array) ≡ 0
   pub writes : own_writes (rack_of array) ≡ 0
 
--- What an event leaves of it: an array of the same first line, ready for the next one. On the rack below such calls were made, on members of that
--- line's boundaries alone; and what that tells it told before.
-pub record ContinuesBy {R : Type 0} (rack : Ghosts R) (may : ℕ → RackCall → Type 0) (old new : Array (LiveRack R)) : Type 0 where
+-- ---- over a rack that is plain or keeps a checkpoint
+
+-- an array on the boundaries in use of such a rack, which stands on the rack of the run
+abbrev pub Running : Type 0 → Type 0
+Running R = Array (LiveRack (StopRack R))
+
+abbrev pub running : {R : Type 0} → Ghosts R → Ghosts (LiveRack (StopRack R))
+running rack = live (stop_words rack)
+
+abbrev pub IsReady : {R : Type 0} → Ghosts R → Running R → Type 0
+IsReady rack array = IsReadyOn (stop_words rack) array
+
+-- What events left of the rack of the run: it is the same one, no count fell, and what it tells it told before. The members behind so many boundaries were
+-- left alone, but for those that were in a checkpoint.
+pub record Later {R : Type 0} (rack : Ghosts R) (boundaries : ℕ) (old new : StopRack R) : Type 0 where
+  pub rise : CountsRise (rack.counts (behind old)) (rack.counts (behind new))
+  pub told_before : (q : ℕ) → rack.tells (behind new) q → rack.tells (behind old) q
+  pub same_rack : rack.name (behind new) ≡ rack.name (behind old)
+  pub room : stop_room new ≡ stop_room old
+  pub others : (q : ℕ) → boundaries ≤ q / 2 → stop_stands_in old q ≡ false → LeavesAlone rack q (behind old) (behind new) × (stop_stands_in new q ≡ false)
+
+-- What any event leaves of the array: one of the same first line, ready for the next one. What the rack of its boundaries tells it told before.
+pub record Continues {R : Type 0} (rack : Ghosts R) (old new : Running R) : Type 0 where
   pub ready : IsReady rack new
   pub line : volumes.line_of new.volume ≡ volumes.line_of old.volume
   pub boundaries : boundaries_of new ≡ boundaries_of old
-  pub made : Makes rack (may (boundaries_of old)) (below_of old) (below_of new)
-  pub tells : StillTold (rack.bytes (below_of old)) (rack.bytes (below_of new))
-
--- what any event leaves of it: no call looks for a member
-abbrev pub Continues : {R : Type 0} → Ghosts R → Array (LiveRack R) → Array (LiveRack R) → Type 0
-Continues rack old new = ContinuesBy rack IsAnyCallBelow old new
+  pub later : Later rack (boundaries_of old) (below_of old) (below_of new)
+  pub tells : StillTold (stop_bytes rack (below_of old)) (stop_bytes rack (below_of new))
 
 -- ---- moments
 
@@ -77,59 +94,59 @@ Continues rack old new = ContinuesBy rack IsAnyCallBelow old new
 abbrev pub standing_of : {R : Type 0} → Array (LiveRack R) → State → Standing R
 standing_of array state = record { state = state; rack = below_of array }
 
--- Of an array of mirrored pairs the rack itself is what stands beneath: its counts, and no disk is out.
-abbrev pub on_pairs : {R : Type 0} → Ghosts R → Standing R → Moment
-on_pairs rack now = record { state = now.state; beneath = record { counts = rack.counts now.rack; out = λ d. false } }
+-- Of an array over a plain rack that is what stands beneath: its counts, which are those of the rack of the run, and no disk is out.
+abbrev pub on_pairs : {R : Type 0} → Ghosts R → Standing (StopRack R) → Moment
+on_pairs rack now = record { state = now.state; beneath = record { counts = stop_counts rack now.rack; out = λ d. false } }
 
 -- From a state of an array these events led to another one, in which it stands now, with these replies. That it stood for the first state's blocks may
 -- rest on something, and that it stands for the last one's on that and on what members told that are no more in use.
-pub record Leads {R : Type 0} (rack : Ghosts R) (Stands : Type 0 → State → Type 0) (origin : Origin (LiveRack R)) (state : State)
-    (old new : Array (LiveRack R)) (events : List Event) (replies : List Reply) : Type 0 where
-  pub after : Origin (LiveRack R)
+pub record Leads {R : Type 0} (rack : Ghosts R) (Stands : Type 0 → State → Type 0) (origin : Origin (LiveRack (StopRack R))) (state : State)
+    (old new : Running R) (events : List Event) (replies : List Reply) : Type 0 where
+  pub after : Origin (LiveRack (StopRack R))
   pub next : State
-  pub stands : Stands (WasHeld (live rack) after) next
-  pub known : TellsLine rack new → WasHeld (live rack) origin → WasHeld (live rack) after
-  pub course : Course rack (KnownBy (WasHeld (live rack) origin) rack new) (standing_of old state) events replies (standing_of new next)
+  pub stands : Stands (WasHeld (running rack) after) next
+  pub known : TellsLine (stop_words rack) new → WasHeld (running rack) origin → WasHeld (running rack) after
+  pub course : Course rack (KnownBy (WasHeld (running rack) origin) (stop_words rack) new) (standing_of old state) events replies (standing_of new next)
 
 -- Whichever state the array was in, these events led on from it.
-abbrev pub RunsTo : {R : Type 0} → Ghosts R → Array (LiveRack R) → List Event → List Reply → Array (LiveRack R) → Type 0
-RunsTo {R = R} rack old events replies new = (origin : Origin (LiveRack R)) (state : State) → StandsIn (live rack) (WasHeld (live rack) origin) old state
-    → Leads rack (λ P next. StandsIn (live rack) P new next) origin state old new events replies
+abbrev pub RunsTo : {R : Type 0} → Ghosts R → Running R → List Event → List Reply → Running R → Type 0
+RunsTo {R = R} rack old events replies new = (origin : Origin (LiveRack (StopRack R))) (state : State) → StandsIn (running rack) (WasHeld (running rack) origin) old state
+    → Leads rack (λ P next. StandsIn (running rack) P new next) origin state old new events replies
 
 -- the same, but nothing is said of the inodes that were read last
-abbrev pub VolumeRunsTo : {R : Type 0} → Ghosts R → Array (LiveRack R) → List Event → List Reply → Array (LiveRack R) → Type 0
-VolumeRunsTo {R = R} rack old events replies new = (origin : Origin (LiveRack R)) (state : State) → StandsIn (live rack) (WasHeld (live rack) origin) old state
-    → Leads rack (λ P next. volumes.StandsIn any_phase (live rack) P new.volume next) origin state old new events replies
+abbrev pub VolumeRunsTo : {R : Type 0} → Ghosts R → Running R → List Event → List Reply → Running R → Type 0
+VolumeRunsTo {R = R} rack old events replies new = (origin : Origin (LiveRack (StopRack R))) (state : State) → StandsIn (running rack) (WasHeld (running rack) origin) old state
+    → Leads rack (λ P next. volumes.StandsIn any_phase (running rack) P new.volume next) origin state old new events replies
 
 -- the same, but nothing is said of what the array stands for now
-abbrev pub RunsBefore : {R : Type 0} → Ghosts R → Array (LiveRack R) → List Event → List Reply → Array (LiveRack R) → Type 0
-RunsBefore {R = R} rack old events replies now = (origin : Origin (LiveRack R)) (state : State) → StandsIn (live rack) (WasHeld (live rack) origin) old state
-    → (next : Standing R) × (next.state.boundaries ≡ boundaries_of now)
-    × Course rack (KnownBy (WasHeld (live rack) origin) rack now) (standing_of old state) events replies next
+abbrev pub RunsBefore : {R : Type 0} → Ghosts R → Running R → List Event → List Reply → Running R → Type 0
+RunsBefore {R = R} rack old events replies now = (origin : Origin (LiveRack (StopRack R))) (state : State) → StandsIn (running rack) (WasHeld (running rack) origin) old state
+    → (next : Standing (StopRack R)) × (next.state.boundaries ≡ boundaries_of now)
+    × Course rack (KnownBy (WasHeld (running rack) origin) (stop_words rack) now) (standing_of old state) events replies next
 
 -- ---- answers
 
 -- the event was done, and its reply was written
-pub record EventAnswered {R : Type 0} (rack : Ghosts R) (event : Event) (taken given : Option (List ℕ)) (old new : Array (LiveRack R)) : Type 0 where
+pub record EventAnswered {R : Type 0} (rack : Ghosts R) (event : Event) (taken given : Option (List ℕ)) (old new : Running R) : Type 0 where
   pub reply : Reply
   pub runs : RunsTo rack old (event ∷ []) (reply ∷ []) new
   pub output : Told (Took (reply_line reply)) taken given
 
 -- the event was done, and a part of its reply was written
-pub record EventCut {R : Type 0} (rack : Ghosts R) (event : Event) (taken given : Option (List ℕ)) (old new : Array (LiveRack R)) : Type 0 where
+pub record EventCut {R : Type 0} (rack : Ghosts R) (event : Event) (taken given : Option (List ℕ)) (old new : Running R) : Type 0 where
   pub reply : Reply
   pub runs : VolumeRunsTo rack old (event ∷ []) (reply ∷ []) new
   pub output : Told (TookPart (reply_line reply)) taken given
 
 -- the event was done and its reply was written, and behind it memory was wanting
-pub record EventDone {R : Type 0} (rack : Ghosts R) (event : Event) (taken given : Option (List ℕ)) (old now : Array (LiveRack R)) : Type 0 where
+pub record EventDone {R : Type 0} (rack : Ghosts R) (event : Event) (taken given : Option (List ℕ)) (old now : Running R) : Type 0 where
   pub reply : Reply
   pub notes : NotesFile event
   pub runs : VolumeRunsTo rack old (event ∷ []) (reply ∷ []) now
   pub output : Told (Took (reply_line reply)) taken given
 
 -- of a listing that may answer the event the first lines were written, and behind them memory was wanting
-pub record EventListed {R : Type 0} (rack : Ghosts R) (event : Event) (taken given : Option (List ℕ)) (old now : Array (LiveRack R)) : Type 0 where
+pub record EventListed {R : Type 0} (rack : Ghosts R) (event : Event) (taken given : Option (List ℕ)) (old now : Running R) : Type 0 where
   pub reply : Reply
   pub text : List ℕ
   pub lines : BeginsLines event reply text
@@ -137,19 +154,23 @@ pub record EventListed {R : Type 0} (rack : Ghosts R) (event : Event) (taken giv
   pub output : Told (Took text) taken given
 
 -- memory was wanting for an event: before its reply, of which nothing was written, behind it, or between two lines of it
-abbrev pub EventWanted : {R : Type 0} → Ghosts R → Event → Option (List ℕ) → Option (List ℕ) → Array (LiveRack R) → Array (LiveRack R) → Type 0
+abbrev pub EventWanted : {R : Type 0} → Ghosts R → Event → Option (List ℕ) → Option (List ℕ) → Running R → Running R → Type 0
 EventWanted rack event taken given old now =
     (given ≡ taken) ⊎ (EventDone rack event taken given old now ⊎ EventListed rack event taken given old now)
 
 -- ---- a blank array
 
--- An array of this shape, over a rack that was so before: it is in the state of the blank array, and calls were made on its members alone.
-pub record IsBlankReady {R : Type 0} (rack : Ghosts R) (shape : Shape) (before : R) (array : Array (LiveRack R)) : Type 0 where
+-- An array of this shape, over a rack that was so before: it is in the state of the blank array, and calls were made on its members alone. `first` are the
+-- counts of its members before that.
+pub record IsBlankReady {R : Type 0} (rack : Ghosts R) (shape : Shape) (before : StopRack R) (array : Running R) : Type 0 where
   pub ready : IsReady rack array
   pub shape_is : shape_of array ≡ shape
   pub boundaries : boundaries_of array ≡ shape.b
-  pub made : Makes rack (IsCallOrBlankBelow shape.b) before (below_of array)
-  pub tells : StillTold (rack.bytes before) (rack.bytes (below_of array))
+  pub made : Makes (stop_words rack) (IsCallOrBlankBelow shape.b) before (below_of array)
+  pub tells : StillTold (stop_bytes rack before) (stop_bytes rack (below_of array))
   pub state : State
-  pub makes : MakesArray (Unit {0}) plain (MakeArray shape) shape (rack.counts before) (on_pairs rack (standing_of array state))
-  pub stands : StandsIn (live rack) (WasHeld (live rack) nothing) array state
+  pub first : Counts
+  pub is_blank : IsBlank shape first state
+  pub begun : AreCountsOf (all_live shape.b) (stop_counts rack before) first
+  pub tied : AreCountsOf state.live (stop_counts rack (below_of array)) state.counts
+  pub stands : StandsIn (running rack) (WasHeld (running rack) nothing) array state

@@ -5,20 +5,18 @@ use Rattle.dg_model.specs.declared.shapes.Shape.{Shape}
 use Rattle.dg_model.specs.declared.events.Event.{Event}
 use Rattle.dg_model.specs.declared.replies.Reply.{Reply}
 use Rattle.dg_io.specs.Told.{Told, Took, TookPart}
-use Rattle.dg_run.specs.declared.arrays.Array.{Array}
 use Rattle.dg_text.specs.Lines.{line_of, input_of, IsInPlace}
 use Rattle.dg_text.specs.Replies.{output_of, refusal}
-use Rattle.dg_regroup.specs.declared.live_racks.LiveRack.{LiveRack}
 use Rattle.dg_text.specs.declared.lines.BadLine.{BadLine}
 use Rattle.dg_run.specs.Events.{Begins, IsRefused}
-use Rattle.dg_run.specs.Histories.{EventAnswered, RunsTo}
+use Rattle.dg_run.specs.Histories.{EventAnswered, RunsTo, Running}
 use Rattle.dg_run.specs.declared.lines.Turn.{Turn}
 use Rattle.dg_run.specs.declared.lines.Turn.TheVariants.{Served as turn_served, End as turn_end, Refused as turn_refused}
 use Rattle.dg_run.specs.declared.lines.LinesEnd.{LinesEnd}
 use Rattle.dg_run.specs.declared.lines.LinesEnd.TheVariants.{Input as input_end, Refused as line_refused}
 
 -- one line was taken, of n bytes and no more than the room, its event was done, and its reply was written
-pub record ServedLine {R : Type 0} (rack : Ghosts R) (shape : Shape) (room n : ℕ) (left rest taken given : Option (List ℕ)) (old new : Array (LiveRack R)) : Type 0 where
+pub record ServedLine {R : Type 0} (rack : Ghosts R) (shape : Shape) (room n : ℕ) (left rest taken given : Option (List ℕ)) (old new : Running R) : Type 0 where
   pub event : Event
   pub in_place : IsInPlace (Some shape) event
   pub size : n ≡ length (line_of event)
@@ -38,13 +36,13 @@ empty_reads_of_turn turn_end = 1
 empty_reads_of_turn (turn_refused kind) = 1
 
 -- what a turn did: nothing changes where it served no line
-abbrev pub Turned : {R : Type 0} → Ghosts R → Shape → ℕ → Option (List ℕ) → Option (List ℕ) → Option (List ℕ) → Option (List ℕ) → Array (LiveRack R) → Array (LiveRack R) → Turn → Type 0
+abbrev pub Turned : {R : Type 0} → Ghosts R → Shape → ℕ → Option (List ℕ) → Option (List ℕ) → Option (List ℕ) → Option (List ℕ) → Running R → Running R → Turn → Type 0
 Turned rack shape room left rest taken given old new (turn_served n) = ServedLine rack shape room n left rest taken given old new
 Turned rack shape room left rest taken given old new turn_end = Told (λ before after. (before ≡ []) × (after ≡ [])) left rest × (given ≡ taken) × (new ≡ old)
 Turned rack shape room left rest taken given old new (turn_refused kind) = Told (λ before after. IsRefused (Some shape) room before kind) left rest × (given ≡ taken) × (new ≡ old)
 
 -- lines were taken one after another, their events were done, and their replies were written
-pub record Served {R : Type 0} (rack : Ghosts R) (shape : Shape) (events : List Event) (left rest taken given : Option (List ℕ)) (old new : Array (LiveRack R)) : Type 0 where
+pub record Served {R : Type 0} (rack : Ghosts R) (shape : Shape) (events : List Event) (left rest taken given : Option (List ℕ)) (old new : Running R) : Type 0 where
   pub replies : List Reply
   pub in_place : All (IsInPlace (Some shape)) events
   pub input : Told (BeginsAll (Some shape) events) left rest
@@ -52,14 +50,14 @@ pub record Served {R : Type 0} (rack : Ghosts R) (shape : Shape) (events : List 
   pub runs : RunsTo rack old events replies new
 
 -- all lines to the end of the input were served, and keep to the budget behind a first line of so many bytes
-pub record AllServed {R : Type 0} (rack : Ghosts R) (shape : Shape) (first : ℕ) (left rest taken given : Option (List ℕ)) (old new : Array (LiveRack R)) : Type 0 where
+pub record AllServed {R : Type 0} (rack : Ghosts R) (shape : Shape) (first : ℕ) (left rest taken given : Option (List ℕ)) (old new : Running R) : Type 0 where
   pub events : List Event
   pub served : Served rack shape events left rest taken given old new
   pub budget : first + length (input_of events) ≤ 2 ^ 40
   pub end : Told (λ before after. (before ≡ input_of events) × (after ≡ [])) left rest
 
 -- Some lines were served, the first of them with the number `from`, and the next one, of this number, is refused by this kind.
-pub record ServedTo {R : Type 0} (rack : Ghosts R) (shape : Shape) (first from number : ℕ) (kind : BadLine) (left rest taken given : Option (List ℕ)) (old new : Array (LiveRack R)) : Type 0 where
+pub record ServedTo {R : Type 0} (rack : Ghosts R) (shape : Shape) (first from number : ℕ) (kind : BadLine) (left rest taken given : Option (List ℕ)) (old new : Running R) : Type 0 where
   pub events : List Event
   pub middle : Option (List ℕ)
   pub served : Served rack shape events left middle taken given old new
@@ -68,12 +66,12 @@ pub record ServedTo {R : Type 0} (rack : Ghosts R) (shape : Shape) (first from n
   pub refused : Told (λ before after. IsRefused (Some shape) (2 ^ 40 - (first + length (input_of events))) before kind) middle rest
 
 -- how lines ended, behind one of so many bytes
-abbrev pub LinesEndAt : {R : Type 0} → Ghosts R → Shape → ℕ → ℕ → Option (List ℕ) → Option (List ℕ) → Option (List ℕ) → Option (List ℕ) → Array (LiveRack R) → Array (LiveRack R) → LinesEnd → Type 0
+abbrev pub LinesEndAt : {R : Type 0} → Ghosts R → Shape → ℕ → ℕ → Option (List ℕ) → Option (List ℕ) → Option (List ℕ) → Option (List ℕ) → Running R → Running R → LinesEnd → Type 0
 LinesEndAt rack shape first from left rest taken given old new input_end = AllServed rack shape first left rest taken given old new
 LinesEndAt rack shape first from left rest taken given old new (line_refused number kind) = ServedTo rack shape first from number kind left rest taken given old new
 
 -- some lines were served, and the next one was refused
-pub record RefusedBehind {R : Type 0} (rack : Ghosts R) (shape : Shape) (first from : ℕ) (left rest taken given : Option (List ℕ)) (old new : Array (LiveRack R)) : Type 0 where
+pub record RefusedBehind {R : Type 0} (rack : Ghosts R) (shape : Shape) (first from : ℕ) (left rest taken given : Option (List ℕ)) (old new : Running R) : Type 0 where
   pub before : Option (List ℕ)
   pub number : ℕ
   pub kind : BadLine
@@ -81,7 +79,7 @@ pub record RefusedBehind {R : Type 0} (rack : Ghosts R) (shape : Shape) (first f
   pub refused : Told (Took (refusal number kind)) before given
 
 -- the same, but the refusal was written in part
-pub record RefusedInPart {R : Type 0} (rack : Ghosts R) (shape : Shape) (first from : ℕ) (left rest taken given : Option (List ℕ)) (old new : Array (LiveRack R)) : Type 0 where
+pub record RefusedInPart {R : Type 0} (rack : Ghosts R) (shape : Shape) (first from : ℕ) (left rest taken given : Option (List ℕ)) (old new : Running R) : Type 0 where
   pub before : Option (List ℕ)
   pub number : ℕ
   pub kind : BadLine

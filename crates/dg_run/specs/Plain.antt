@@ -1,9 +1,9 @@
--- Which events have the plainest answer, and how an array of mirrored pairs answers.
-use Rattle.std.specs.Prelude.{◌≡◌, ◌<◌, Bool, true, false, length}
+-- Which events have the plainest answer, and how an array answers whose rack has no disks.
+use Rattle.std.specs.Prelude.{◌≡◌, ◌<◌, ℕ, Bool, true, false, Option, Some, None, length}
 use Rattle.dg_model.specs.declared.events.Event.{Event}
-use Rattle.dg_model.specs.declared.events.Event.TheVariants.{Audit, Write, Fail, Replace, Rebuild, Settle, Tend, Diffuse, Who, Home, Save, DropDisk, MendDisk}
+use Rattle.dg_model.specs.declared.events.Event.TheVariants.{Audit, Write, Fail, Rebuild, Settle, Tend, Diffuse, Who, Home, Save, DropDisk, MendDisk}
 use Rattle.dg_model.specs.declared.replies.Reply.{Reply}
-use Rattle.dg_model.specs.declared.replies.Reply.TheVariants.{Lost, NotParity, Saved}
+use Rattle.dg_model.specs.declared.replies.Reply.TheVariants.{Lost, NotParity, NotSaved, Saved}
 use Rattle.dg_run.specs.declared.arrays.Array.{Array}
 use Rattle.dg_volume.specs.Volumes as volumes
 
@@ -27,11 +27,12 @@ is_plain event = false
 abbrev pub IsReduced : {R : Type 0} → Array R → Type 0
 IsReduced array = length (volumes.live_of array.volume) < (volumes.reduced_of array.volume).boundaries
 
--- So an array answers whose rack keeps no checkpoint and has no disks: it is saved only where all boundaries are in use, and there is no disk to take
--- out or to mend.
-abbrev pub IsOfPairs : {R : Type 0} → Array R → Event → Reply → Type 0
-IsOfPairs array Save (Saved q) = IsReduced array → ⊥
-IsOfPairs array Save (Lost s) = IsReduced array → ⊥
-IsOfPairs array (DropDisk s j) reply = reply ≡ NotParity
-IsOfPairs array (MendDisk s j) reply = reply ≡ NotParity
-IsOfPairs array event reply = Unit {0}
+-- So an array answers whose rack has no disks, and this room for a checkpoint: there is no disk to take out or to mend; and with a boundary out of use it
+-- is saved only where there is room, and then it is.
+abbrev pub IsOfPairs : {R : Type 0} → Array R → Event → Reply → Option ℕ → Type 0
+IsOfPairs array Save (Saved q) None = IsReduced array → ⊥
+IsOfPairs array Save (Lost s) None = IsReduced array → ⊥
+IsOfPairs array Save NotSaved (Some room) = ⊥
+IsOfPairs array (DropDisk s j) reply room = reply ≡ NotParity
+IsOfPairs array (MendDisk s j) reply room = reply ≡ NotParity
+IsOfPairs array event reply room = Unit {0}

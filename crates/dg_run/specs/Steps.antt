@@ -13,6 +13,7 @@ use Rattle.dg_model.specs.declared.shapes.Shape.{Shape}
 use Rattle.dg_run.specs.declared.arrays.Array.{Array}
 use Rattle.dg_store.specs.Leaves.{IsCallOrBlankBelow, IsCallOrExtendBelow, MadeBelow}
 use Rattle.dg_text.specs.Replies.{lost_text, nodes_text, reply_line}
+use Rattle.dg_volume.specs.Commits.{KeepsSaved}
 use Rattle.dg_volume.specs.Origins.{Always, Origin, WasHeld}
 use Rattle.dg_volume.specs.Volumes.{IsWell, Leaves, LeavesBy, any_phase}
 use Rattle.dg_volume.specs.Volumes as volumes
@@ -43,6 +44,14 @@ GoesOn rack old new = Leaves any_phase any_phase rack old.volume new.volume
 -- what stays of it where it is saved
 abbrev pub GoesSaved : {R : Type 0} → Ghosts R → Array R → Array R → Type 0
 GoesSaved rack old new = LeavesBy any_phase any_phase rack IsCallOrExtendBelow old.volume new.volume
+
+-- what stays of it where it is saved and then makes a checkpoint, or where it is saved alone. `room` is the rack's room for a checkpoint, and `commits`
+-- what a commit may leave of it.
+pub record GoesKept {R : Type 0} (rack : Ghosts R) (room : R → Option ℕ) (commits : R → R → Type 0) (old new : Array R) : Type 0 where
+  pub sound : IsSound rack new
+  pub line : volumes.line_of new.volume ≡ volumes.line_of old.volume
+  pub boundaries : (volumes.reduced_of new.volume).boundaries ≡ (volumes.reduced_of old.volume).boundaries
+  pub by : GoesSaved rack old new ⊎ KeepsSaved any_phase rack room commits old.volume new.volume
 
 -- what stays of it where a member is replaced
 abbrev pub GoesReplaced : {R : Type 0} → Ghosts R → Array R → Array R → Type 0

@@ -18,6 +18,7 @@ use crate::serve::serve;
 use dg_io::{Rack, Sink, Source};
 use dg_model::Shape;
 use dg_regroup::LiveRack;
+use dg_stop::StopRack;
 use dg_text::BadLine;
 use std::alloc::Global;
 
@@ -50,7 +51,7 @@ fn serve_next<S: Source, K: Sink, R: Rack>(
     input: &mut Input,
     source: &mut S,
     sink: &mut K,
-    array: &mut Array<LiveRack<R>>,
+    array: &mut Array<LiveRack<StopRack<R>>>,
     block: &mut [u8],
     shape: &Shape,
     room: u64,
@@ -95,7 +96,7 @@ pub fn serve_lines<S: Source, K: Sink, R: Rack>(
     input: &mut Input,
     source: &mut S,
     sink: &mut K,
-    array: &mut Array<LiveRack<R>>,
+    array: &mut Array<LiveRack<StopRack<R>>>,
     block: &mut [u8],
     first: u64,
     from: u64,

@@ -16,7 +16,7 @@ use std::alloc::Global;
 /// Takes the lost boundaries out of use, and writes the reply.
 pub fn serve_regroup<R: Rack, K: Sink>(
     alloc: Global,
-    array: &mut Array<LiveRack<R>>,
+    array: &mut Array<LiveRack<StopRack<R>>>,
     sink: &mut K,
 ) -> Result<(), Fault>
     requires ready { IsReady R.Rack array.old }

@@ -28,6 +28,7 @@ use crate::top::Status;
 use dg_io::{Rack, Sink, Source};
 use dg_model::{Event, NoMemory, Reply, Shape};
 use dg_regroup::LiveRack;
+use dg_stop::StopRack;
 use dg_text::{BadLine, write_refusal};
 use std::alloc::Global;
 
@@ -79,7 +80,7 @@ fn serve_array<S: Source, K: Sink, R: Rack>(
     input: &mut Input,
     source: &mut S,
     sink: &mut K,
-    array: &mut Array<LiveRack<R>>,
+    array: &mut Array<LiveRack<StopRack<R>>>,
     first: u64,
 ) -> Status
     requires ready { IsReady R.Rack array.old }

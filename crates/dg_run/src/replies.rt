@@ -3,16 +3,16 @@ ghost use Rattle.std.specs.Prelude.{◌≡◌};
 ghost use Rattle.dg_volume.specs.Audits.{audit_reply};
 ghost use Rattle.dg_volume.specs.Copies.{any_diffuse_reply};
 ghost use Rattle.dg_run.specs.Regroups.{regroup_reply};
+ghost use Rattle.dg_volume.specs.Commits.{checkpoint_reply};
 ghost use Rattle.dg_volume.specs.Refills.{rebuild_reply, replace_reply};
 ghost use Rattle.dg_volume.specs.Replies.{any_home_reply, fail_reply, fault_reply, home_reply as settled_home_reply, who_reply};
-ghost use Rattle.dg_volume.specs.Saves.{save_reply};
 ghost use Rattle.dg_volume.specs.Settles.{settle_reply, tend_reply};
 ghost use Rattle.dg_volume.specs.Writes.{write_reply};
 
 use dg_model::Reply;
 use dg_volume::{
-    AnyDiffuse, AnyHome, AuditAnswer, DiffuseAnswer, FailAnswer, HomeAnswer, LookFault,
-    RebuildAnswer, RegroupAnswer, ReplaceAnswer, SaveAnswer, TendRun, Unsettled, WhoAnswer,
+    AnyDiffuse, AnyHome, AuditAnswer, CheckpointAnswer, DiffuseAnswer, FailAnswer, HomeAnswer,
+    LookFault, RebuildAnswer, RegroupAnswer, ReplaceAnswer, TendRun, Unsettled, WhoAnswer,
     WriteAnswer,
 };
 use ufs_model::PathRefusal;
@@ -110,13 +110,14 @@ pub fn tend_reply(answer: TendRun) -> Reply
     }
 }
 
-/// The state was saved, or no member is good.
-pub fn save_reply(answer: SaveAnswer) -> Reply
-    ensures { result ≡ save_reply answer }
+/// The state was saved, or why not.
+pub fn checkpoint_reply(answer: CheckpointAnswer) -> Reply
+    ensures { result ≡ checkpoint_reply answer }
 {
     match answer {
-        SaveAnswer::Saved(sequence) => Reply::Saved(sequence),
-        SaveAnswer::Lost(s) => Reply::Lost(s as u32),
+        CheckpointAnswer::Saved(sequence) => Reply::Saved(sequence),
+        CheckpointAnswer::Lost(s) => Reply::Lost(s as u32),
+        CheckpointAnswer::NotSaved => Reply::NotSaved,
     }
 }
 

@@ -22,6 +22,7 @@ use crate::top::Status;
 use dg_io::{Rack, Sink, Source, write_all};
 use dg_model::NoMemory;
 use dg_regroup::LiveRack;
+use dg_stop::StopRack;
 use dg_volume::{OpenAnswer, open};
 use std::alloc::Global;
 
@@ -61,7 +62,7 @@ fn resume_array<S: Source, K: Sink, R: Rack>(
     input: &mut Input,
     source: &mut S,
     sink: &mut K,
-    array: &mut Array<LiveRack<R>>,
+    array: &mut Array<LiveRack<StopRack<R>>>,
 ) -> Status
     requires ready { IsReady R.Rack array.old }
     ensures goes { Continues R.Rack array.old array.new }

@@ -1,5 +1,5 @@
 // One event on an array, and its reply.
-ghost use Rattle.std.specs.Prelude.{◌≡◌, ◌≤◌, length, true, IfOk, OnOk, OnErr, Some};
+ghost use Rattle.std.specs.Prelude.{◌≡◌, ◌≤◌, ℕ, Option, length, true, IfOk, OnOk, OnErr, Some};
 ghost use Rattle.dg_io.specs.SinkLines.{LeavesLines};
 ghost use Rattle.dg_model.specs.Causes.{Rose};
 ghost use Rattle.dg_text.specs.Lines.{IsInPlace};
@@ -7,7 +7,7 @@ ghost use Rattle.dg_text.specs.Replies.{reply_line};
 ghost use Rattle.dg_io.specs.Told.{Told, Took, TookPart};
 ghost use Rattle.dg_run.specs.Histories.{Continues, EventAnswered, EventCut, EventWanted, IsReady};
 ghost use Rattle.dg_run.specs.Plain.{IsOfPairs, is_plain};
-ghost use Rattle.dg_run.specs.Steps.{Answered, AnsweredPart, GoesOn, GoesReplaced, GoesSaved, IsSound, StepsTo, shape_of};
+ghost use Rattle.dg_run.specs.Steps.{Answered, AnsweredPart, GoesKept, GoesOn, GoesReplaced, IsSound, StepsTo, rack_of, shape_of};
 
 use crate::arrays::Array;
 use crate::blocks::{fill_block, trimmed};
@@ -18,13 +18,14 @@ use crate::lost_files::serve_lost;
 use crate::pendings::serve_pending;
 use crate::regroups::serve_regroup;
 use crate::replies::{
-    audit_reply, diffuse_reply, fail_reply, home_reply, rebuild_reply, replace_reply, save_reply,
+    audit_reply, checkpoint_reply, diffuse_reply, fail_reply, home_reply, rebuild_reply, replace_reply,
     settle_reply, tend_reply, who_reply, write_reply,
 };
 use crate::trees::serve_tree;
-use dg_io::{Rack, Sink};
+use dg_io::{Checkpoint, Rack, Sink};
 use dg_model::{Event, NoMemory, Reply};
 use dg_regroup::LiveRack;
+use dg_stop::StopRack;
 use dg_text::{write_data, write_reply as write_line};
 use dg_volume::ReadAnswer;
 use std::alloc::Global;
@@ -87,17 +88,15 @@ fn serve_read<R: Rack, K: Sink>(
     }
 }
 
-/// Saves the state, where all boundaries are in use.
-fn save<R: Rack>(alloc: Global, array: &mut Array<R>) -> Result<Reply, NoMemory>
+/// Saves the state, and makes a checkpoint of it where the rack keeps one.
+fn save<R: Checkpoint>(alloc: Global, array: &mut Array<R>) -> Result<Reply, NoMemory>
     requires sound { IsSound R.Rack array.old }
-    ensures goes { GoesSaved R.Rack array.old array.new }
+    ensures goes { GoesKept R.Rack R.room_of R.commits array.old array.new }
     ensures steps { IfOk result (λ reply. StepsTo R.Rack array.old Event.Save reply array.new) }
-    ensures of_pairs { IfOk result (λ reply. IsOfPairs array.old Event.Save reply) }
+    ensures of_pairs { IfOk result (λ reply. IsOfPairs array.old Event.Save reply (R.room_of (rack_of array.old))) }
 {
-    if array.volume.is_reduced() {
-        return Ok(Reply::NotSaved);
-    }
-    Ok(save_reply(array.volume.save(alloc, &array.hot)?))
+    let answer = array.volume.checkpoint(alloc, &array.hot)?;
+    Ok(checkpoint_reply(answer))
 }
 
 /// Makes a member anew that is out.
@@ -123,7 +122,7 @@ fn reply_to<R: Rack>(
     requires plain { is_plain event.now ≡ true }
     ensures goes { GoesOn R.Rack array.old array.new }
     ensures steps { IfOk result (λ reply. StepsTo R.Rack array.old event.now reply array.new) }
-    ensures of_pairs { IfOk result (λ reply. IsOfPairs array.old event.now reply) }
+    ensures of_pairs { IfOk result (λ reply. (room : Option ℕ) → IsOfPairs array.old event.now reply room) }
 {
     match event {
         Event::Write(b, bytes) => {
@@ -157,7 +156,7 @@ fn reply_to<R: Rack>(
 /// Saves the state, and writes the reply.
 fn serve_save<R: Rack, K: Sink>(
     alloc: Global,
-    array: &mut Array<LiveRack<R>>,
+    array: &mut Array<LiveRack<StopRack<R>>>,
     sink: &mut K,
 ) -> Result<(), Fault>
     requires ready { IsReady R.Rack array.old }
@@ -179,7 +178,7 @@ fn serve_save<R: Rack, K: Sink>(
 
 /// Makes a member anew that is out, and writes the reply.
 fn serve_replace<R: Rack, K: Sink>(
-    array: &mut Array<LiveRack<R>>,
+    array: &mut Array<LiveRack<StopRack<R>>>,
     sink: &mut K,
     s: u32,
     j: u32,
@@ -202,7 +201,7 @@ fn serve_replace<R: Rack, K: Sink>(
 /// Does such an event, and writes its reply.
 fn serve_plain<R: Rack, K: Sink>(
     alloc: Global,
-    array: &mut Array<LiveRack<R>>,
+    array: &mut Array<LiveRack<StopRack<R>>>,
     sink: &mut K,
     event: &Event,
     block: &mut [u8],
@@ -230,7 +229,7 @@ fn serve_plain<R: Rack, K: Sink>(
 /// Does an event that is in its place after the array, and writes its reply.
 pub fn serve<R: Rack, K: Sink>(
     alloc: Global,
-    array: &mut Array<LiveRack<R>>,
+    array: &mut Array<LiveRack<StopRack<R>>>,
     sink: &mut K,
     event: &Event,
     block: &mut [u8],

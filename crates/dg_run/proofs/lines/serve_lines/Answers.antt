@@ -2,7 +2,7 @@ use Rattle.std.proofs.Common.{refl, rules, arith, ◌∙◌}
 use Rattle.dg_io.specs.SinkLines.{lines_both, lines_none}
 use Rattle.dg_io.specs.SourceReads.{reads_both, reads_none}
 use Rattle.dg_run.proofs.Breaks.{lines_broke_off, lines_cut, lines_ran_out_at}
-use Rattle.dg_run.proofs.Continuing.{continues_none, continues_then, told_line}
+use Rattle.dg_run.proofs.Laters.{continues_none, continues_then, told_line}
 use Rattle.dg_run.proofs.Inputs.{line_some}
 use Rattle.dg_run.proofs.Runs.{so_far_none, so_far_more, turned_served, lines_end, lines_refused}
 use Rattle.dg_run.proofs.lines.serve_lines.Goals as goal

@@ -1,6 +1,6 @@
 use Rattle.std.proofs.Common.{◌≤◌, ℕ, rules, subst}
 use Rattle.dg_run.proofs.Breaks.{ran_out_of}
-use Rattle.dg_run.proofs.Continuing.{continues_none}
+use Rattle.dg_run.proofs.Laters.{continues_none}
 use Rattle.dg_run.proofs.Placed.{placed_by}
 use Rattle.dg_run.specs.Inputs.{unread}
 use Rattle.dg_run.specs.Steps.{shape_of}

@@ -2,7 +2,7 @@ use Rattle.std.proofs.Common.{◌∷◌, [], refl, subst, sym}
 use Rattle.dg_model.specs.declared.events.Event.TheVariants.{Regroup}
 use Rattle.dg_model.specs.declared.replies.Reply.{Reply}
 use Rattle.dg_run.proofs.Answers.{at_err, event_done_by, event_part_by}
-use Rattle.dg_run.proofs.Continuing.{continues_wanting}
+use Rattle.dg_run.proofs.Laters.{continues_wanting}
 use Rattle.dg_run.proofs.Happening.{weaker_runs}
 use Rattle.dg_run.proofs.Regrouping.{continues_answer, has_boundaries, runs_answer}
 use Rattle.dg_run.specs.Histories.{RunsTo}

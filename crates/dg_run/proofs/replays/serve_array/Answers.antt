@@ -8,7 +8,7 @@ use Rattle.dg_run.proofs.Breaks.{broke_off_behind, cut_behind, ran_out_behind}
 use Rattle.dg_io.specs.Told.{AreAny}
 use Rattle.dg_run.proofs.ToldSteps.{Told-refl, any_left}
 use Rattle.dg_run.specs.Inputs.{ahead, unread}
-use Rattle.dg_run.proofs.Continuing.{continues_none}
+use Rattle.dg_run.proofs.Laters.{continues_none}
 use Rattle.dg_run.proofs.replays.serve_array.Goals as goal
 
 pub returns-clause-part : goal.returns-clause-part

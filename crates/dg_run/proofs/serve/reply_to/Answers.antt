@@ -86,31 +86,31 @@ pub returns-in-Who-clause-goes : goal.returns-in-Who-clause-goes
 returns-in-Who-clause-goes g c = goes_none g.R.Rack c.args.array.now c.requires.sound
 
 pub returns-in_ok-write_block-in-Write-clause-of_pairs : goal.returns-in_ok-write_block-in-Write-clause-of_pairs
-returns-in_ok-write_block-in-Write-clause-of_pairs g c = subst (λ (e : Event). IsOfPairs c.args.array.now e c.write_reply.result) (sym c.in-Write.is) tt
+returns-in_ok-write_block-in-Write-clause-of_pairs g c = λ room. subst (λ (e : Event). IsOfPairs c.args.array.now e c.write_reply.result room) (sym c.in-Write.is) tt
 
 pub returns-in-Fail-clause-of_pairs : goal.returns-in-Fail-clause-of_pairs
-returns-in-Fail-clause-of_pairs g c = subst (λ (e : Event). IsOfPairs c.args.array.now e c.fail_reply.result) (sym c.in-Fail.is) tt
+returns-in-Fail-clause-of_pairs g c = λ room. subst (λ (e : Event). IsOfPairs c.args.array.now e c.fail_reply.result room) (sym c.in-Fail.is) tt
 
 pub returns-in_ok-settle-in-Settle-clause-of_pairs : goal.returns-in_ok-settle-in-Settle-clause-of_pairs
-returns-in_ok-settle-in-Settle-clause-of_pairs g c = subst (λ (e : Event). IsOfPairs c.args.array.now e c.settle_reply.result) (sym c.in-Settle.is) tt
+returns-in_ok-settle-in-Settle-clause-of_pairs g c = λ room. subst (λ (e : Event). IsOfPairs c.args.array.now e c.settle_reply.result room) (sym c.in-Settle.is) tt
 
 pub returns-in_ok-tend-in-Tend-clause-of_pairs : goal.returns-in_ok-tend-in-Tend-clause-of_pairs
-returns-in_ok-tend-in-Tend-clause-of_pairs g c = subst (λ (e : Event). IsOfPairs c.args.array.now e c.tend_reply.result) (sym c.in-Tend.is) tt
+returns-in_ok-tend-in-Tend-clause-of_pairs g c = λ room. subst (λ (e : Event). IsOfPairs c.args.array.now e c.tend_reply.result room) (sym c.in-Tend.is) tt
 
 pub returns-in_ok-audit-in-Audit-clause-of_pairs : goal.returns-in_ok-audit-in-Audit-clause-of_pairs
-returns-in_ok-audit-in-Audit-clause-of_pairs g c = subst (λ (e : Event). IsOfPairs c.args.array.now e c.audit_reply.result) (sym c.in-Audit.is) tt
+returns-in_ok-audit-in-Audit-clause-of_pairs g c = λ room. subst (λ (e : Event). IsOfPairs c.args.array.now e c.audit_reply.result room) (sym c.in-Audit.is) tt
 
 pub returns-in-Who-clause-of_pairs : goal.returns-in-Who-clause-of_pairs
-returns-in-Who-clause-of_pairs g c = subst (λ (e : Event). IsOfPairs c.args.array.now e c.who_reply.result) (sym c.in-Who.is) tt
+returns-in-Who-clause-of_pairs g c = λ room. subst (λ (e : Event). IsOfPairs c.args.array.now e c.who_reply.result room) (sym c.in-Who.is) tt
 
 pub returns-in-Home-clause-of_pairs : goal.returns-in-Home-clause-of_pairs
-returns-in-Home-clause-of_pairs g c = subst (λ (e : Event). IsOfPairs c.args.array.now e c.home_reply.result) (sym c.in-Home.is) tt
+returns-in-Home-clause-of_pairs g c = λ room. subst (λ (e : Event). IsOfPairs c.args.array.now e c.home_reply.result room) (sym c.in-Home.is) tt
 
 pub returns-in_ok-rebuild-in-Rebuild-clause-of_pairs : goal.returns-in_ok-rebuild-in-Rebuild-clause-of_pairs
-returns-in_ok-rebuild-in-Rebuild-clause-of_pairs g c = subst (λ (e : Event). IsOfPairs c.args.array.now e c.rebuild_reply.result) (sym c.in-Rebuild.is) tt
+returns-in_ok-rebuild-in-Rebuild-clause-of_pairs g c = λ room. subst (λ (e : Event). IsOfPairs c.args.array.now e c.rebuild_reply.result room) (sym c.in-Rebuild.is) tt
 
 pub returns-in_ok-diffuse-in-Diffuse-clause-of_pairs : goal.returns-in_ok-diffuse-in-Diffuse-clause-of_pairs
-returns-in_ok-diffuse-in-Diffuse-clause-of_pairs g c = subst (λ (e : Event). IsOfPairs c.args.array.now e c.diffuse_reply.result) (sym c.in-Diffuse.is) tt
+returns-in_ok-diffuse-in-Diffuse-clause-of_pairs g c = λ room. subst (λ (e : Event). IsOfPairs c.args.array.now e c.diffuse_reply.result room) (sym c.in-Diffuse.is) tt
 
 pub returns-in-DropDisk-clause-of_pairs : goal.returns-in-DropDisk-clause-of_pairs
 returns-in-DropDisk-clause-of_pairs g c = disk_pairs g.R.Rack c.args.array.now c.args.event.now c.in-DropDisk.is

@@ -1,26 +1,35 @@
-use Rattle.std.proofs.Common.{refl, rules, subst, sym}
+use Rattle.std.proofs.Common.{refl, subst, sym}
 use Rattle.dg_model.specs.declared.events.Event.TheVariants.{Save}
 use Rattle.dg_model.specs.declared.replies.Reply.{Reply}
-use Rattle.dg_run.proofs.ArraySteps.{not_saved_steps, saved_pairs, steps_hot}
-use Rattle.dg_run.proofs.Runs.{goes_none}
+use Rattle.dg_run.proofs.ArraySteps.{kept_by, kept_pairs, steps_hot}
+use Rattle.dg_run.specs.Plain.{IsOfPairs}
+use Rattle.dg_run.specs.Steps.{rack_of}
 use Rattle.dg_volume.specs.Copies.{StepsHot}
-use Rattle.dg_volume.specs.HeldLaws.{leaves_or_extend}
 use Rattle.dg_volume.specs.Volumes.{any_phase}
 use Rattle.dg_run.proofs.serve.save.Goals as goal
+
+pub returns-clause-goes : goal.returns-clause-goes
+returns-clause-goes g c =
+    let a = c.args.array.now in
+    let b = record a { volume = c.checkpoint.new.self } in
+    let on = c.in_ok-answer.ensures.on in
+    record {
+      sound = on.well;
+      line = on.line;
+      boundaries = on.boundaries;
+      by = kept_by g.R.Rack g.R.Checkpoint.room_of g.R.Checkpoint.commits a b c.in_ok-answer.answer c.requires.sound c.in_ok-answer.ensures.kept;
+    }
 
 pub returns-clause-steps : goal.returns-clause-steps
 returns-clause-steps g c =
     let a = c.args.array.now in
-    let b = record a { volume = c.save.new.self } in
-    let step = subst (λ (r : Reply). StepsHot any_phase any_phase g.R.Rack a.hot a.volume Save r b.volume) (sym c.save_reply.ensures) c.in_ok-save.ensures.steps in
-    steps_hot g.R.Rack a b Save c.save_reply.result tt refl step
+    let b = record a { volume = c.checkpoint.new.self } in
+    let step = subst (λ (r : Reply). StepsHot any_phase any_phase g.R.Rack a.hot a.volume Save r b.volume) (sym c.checkpoint_reply.ensures) c.in_ok-answer.ensures.steps in
+    steps_hot g.R.Rack a b Save c.checkpoint_reply.result tt refl step
 
 pub returns-clause-of_pairs : goal.returns-clause-of_pairs
-returns-clause-of_pairs g c = saved_pairs g.R.Rack c.args.array.now (λ less. let is = c.is_reduced.ensures.1 less in search (rules, is)) c.save_reply.result
-
-pub returns-then-is_reduced-clause-goes : goal.returns-then-is_reduced-clause-goes
-returns-then-is_reduced-clause-goes g c =
-    leaves_or_extend any_phase any_phase g.R.Rack c.args.array.now.volume c.args.array.now.volume (goes_none g.R.Rack c.args.array.now c.requires.sound)
-
-pub returns-then-is_reduced-clause-steps : goal.returns-then-is_reduced-clause-steps
-returns-then-is_reduced-clause-steps g c = not_saved_steps g.R.Rack c.args.array.now (c.is_reduced.ensures.0 (search rules))
+returns-clause-of_pairs g c =
+    let a = c.args.array.now in
+    let not = c.in_ok-answer.ensures.not_saved in
+    subst (λ (r : Reply). IsOfPairs a Save r (g.R.Checkpoint.room_of (rack_of a))) (sym c.checkpoint_reply.ensures)
+    (kept_pairs g.R.Rack g.R.Checkpoint.room_of a c.in_ok-answer.answer not.0 not.1)
