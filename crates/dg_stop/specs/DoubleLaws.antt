@@ -1,5 +1,5 @@
 -- Calls of a double rack leave what each of them leaves.
-use Rattle.std.specs.Prelude.{◌≡◌, ◌<◌, ◌≤◌, ◌&&◌, ◌++◌, ℕ, Bool, true, false, List, [], Option, Some, None, IsSome, refl, slice_index}
+use Rattle.std.specs.Prelude.{◌≡◌, ◌≤◌, ◌&&◌, ◌++◌, ℕ, Bool, true, false, List, [], Option, Some, None, IsSome, refl, slice_index}
 use Rattle.std.proofs.Common.{◌∙◌, arith, inl, inr}
 use Rattle.std.proofs.lemmas.Bool.{cases_lt, false≢true}
 use Rattle.dg_io.specs.MadeLaws.{after_both, after_none, each_back, each_front, same_both, same_told}

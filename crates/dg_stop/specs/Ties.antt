@@ -9,9 +9,8 @@ use Rattle.dg_io.specs.RackWords.{After, MadeOnly}
 use Rattle.dg_io.specs.declared.outside.Rack.{Ghosts}
 use Rattle.dg_model.specs.Causes.{Rose}
 use Rattle.dg_model.specs.States.{Counts, CountsRise}
-use Rattle.dg_stop.specs.DoubleCommits.{CommitsBehind}
 use Rattle.dg_stop.specs.DoubleLaws.{alone_after}
-use Rattle.dg_stop.specs.Doubles.{Double, DoubleMade, IsPlainOn, LeavesAlone, stands_in}
+use Rattle.dg_stop.specs.Doubles.{IsPlainOn, LeavesAlone}
 use Rattle.dg_stop.specs.StopCalls.{behind}
 use Rattle.dg_stop.specs.StopRacks.{StopCommits, StopMade, commits_by, made_by, stop_counts, stop_room, stop_stands_in, stop_words}
 use Rattle.dg_stop.specs.declared.stop_racks.StopRack.{StopRack}
@@ -106,18 +105,20 @@ module _ {R : Type 0} (rack : Ghosts R) where
       tied = λ q. tied_by a b made is.by q (each_such IsReadOrWrite (IsPlainOn q) (plain_on q) made each);
     }
 
+    pub only_tied : (a b : StopRack R) → MadeOnly (stop_words rack) IsReadOrWrite a b → RisesWithBehind rack a b
+    only_tied a b only = reads_tied a b only.calls only.made only.each
+
+    -- ---- a member that none of the calls is on
+
     alone_by : (a b : StopRack R) (made : List RackCall) → made_by rack a made b → (q : ℕ) → Each (IsNotOn q) made → LeavesAlone rack q (behind a) (behind b)
     alone_by (Plain a) (Plain b) made is q each = alone_after rack q made a b (after a b made is) each
     alone_by (Plain a) (Doubled b) made is q each = absurd is
     alone_by (Doubled a) (Plain b) made is q each = absurd is
     alone_by (Doubled a) (Doubled b) made is q each = (is.alone q each).0
 
-    -- a member that none of the calls is on is left alone behind
+    -- it is left alone behind
     pub calls_alone : (a b : StopRack R) (made : List RackCall) → StopMade rack a made b → (q : ℕ) → Each (IsNotOn q) made → LeavesAlone rack q (behind a) (behind b)
     calls_alone a b made is = alone_by a b made is.by
-
-    pub only_tied : (a b : StopRack R) → MadeOnly (stop_words rack) IsReadOrWrite a b → RisesWithBehind rack a b
-    only_tied a b only = reads_tied a b only.calls only.made only.each
 
   stand_by : (a b : StopRack R) (made : List RackCall) → made_by rack a made b → (q : ℕ) → Each (IsNotOn q) made → stop_stands_in b q ≡ stop_stands_in a q
   stand_by (Plain a) (Plain b) made is q each = refl
