@@ -14,7 +14,7 @@ use Rattle.dg_stop.proofs.OneCommit.{same_at, told_both}
 use Rattle.dg_stop.proofs.Paging.{at_seen, size_seen}
 use Rattle.dg_stop.proofs.Renewing.{IsElsewhere, renewed_guards, renewed_keeps}
 use Rattle.dg_stop.proofs.StepLemmas.{if_known, long_same, ok_on, seen_others, seen_told}
-use Rattle.dg_stop.specs.DoubleLaws.{seen_some, some_seen}
+use Rattle.dg_stop.specs.DoubleLaws.{alone_after, seen_some, some_seen}
 use Rattle.dg_stop.specs.Doubles.{AreHeld, IsBeside, Joins, KeepsOthers, Lays, Loses, Steps, fell_in, keeps_in, known_in, seen_in, sizes_in, stands_in}
 use Rattle.dg_stop.specs.Headers.{Header, HasHeader, header_bytes}
 use Rattle.dg_stop.specs.Layouts.{bit_in, bits_of, double_size, header_place, seen, table_size}
@@ -181,12 +181,13 @@ module _ {S T E : Type 0} (rack : Ghosts S) (q : ℕ) (result : Result T E) (m n
     steady_on = leaves.steady_on;
     others = λ r far. seen_others q r m n beside far (rack.bytes a r) (rack.bytes b r) (leaves.others r far);
     others_stand = beside.stands;
-    others_behind = λ r far. after.others_stand r ((λ e. far (sym e)), tt);
+    alone = λ r far. alone_after rack r (blanks q ∷ []) a b after ((λ e. far (sym e)), tt);
     stands_on = ok_on result (stands_in n q ≡ true) (stands_in m q ≡ true → stands_in n q ≡ true) (λ is h. is) ok;
     tells = λ r told. some_seen m r (rack.bytes a r) (leaves.tells r (seen_some n r (rack.bytes b r) told));
     told_before = after.told_before;
     rise = after.rise;
     disks = after.disks_after;
+    room = beside.room;
   }
 
 long_zeros : (n : ℕ) (x y : Option (List ℕ)) → Told (IsZeros n) x y → IfSome y (λ all. length all ≡ n)

@@ -12,7 +12,7 @@ use Rattle.dg_io.specs.declared.checkpoints.CommitAnswer.TheVariants.{Committed,
 use Rattle.dg_io.specs.declared.outside.Rack.{Ghosts}
 use Rattle.dg_stop.proofs.CommitMembers.{not_fallen}
 use Rattle.dg_stop.proofs.TriesLemmas.{none_of}
-use Rattle.dg_stop.specs.DoubleCommits.{Faults, RisesBehind, KeepsCommit, LeavesMembers, answer_in, double_rack, double_room, fell_now, tried_kept}
+use Rattle.dg_stop.specs.DoubleCommits.{CommitsBehind, Faults, KeepsCommit, LeavesMembers, answer_in, double_rack, double_room, fell_now, tried_kept}
 use Rattle.dg_stop.specs.Doubles.{Double, double_bytes, stands_in}
 use Rattle.dg_stop.specs.Phases.{flag_in}
 use Rattle.dg_stop.specs.StopRacks.{StopCommits, stop_room, stop_words}
@@ -92,6 +92,18 @@ module _ {R : Type 0} (rack : Ghosts R) (keep : ℕ) (extra : List ℕ) (served 
   commit_answer (Some s) fell fells some kept = commit_made s fell fells kept
   commit_answer None fell fells some kept = commit_lost (none_of serves (λ has. false≢true (some.1 has))) kept
 
+still_out : (fell stands : Bool) → stands ≡ false → (if fell then false else stands) ≡ false
+still_out true stands out = refl
+still_out false stands out = out
+
+-- what the commit may leave of it
+pub commits_behind : {R : Type 0} (rack : Ghosts R) (served serves : List Bool) (old new : Double R) → LeavesMembers rack served serves old.memory new.memory old.rack new.rack → CommitsBehind rack old new
+commits_behind rack served serves old new leaves = record {
+  rise = leaves.rise;
+  alone = λ q out. (leaves.alone q out, leaves.stands q ∙ still_out (fell_now served serves q) (stands_in old.memory q) out);
+  room = leaves.room;
+}
+
 -- ---- plain or double
 
 pub commit_doubled : {R : Type 0} (rack : Ghosts R) (keep : ℕ) (extra : List ℕ) (answer : CommitAnswer) (old new : Double R) → LeavesCommit (double_rack rack) double_room keep extra answer old new
@@ -114,8 +126,8 @@ commit_doubled rack keep extra answer old new leaves = record {
   kept_of (Committed s fell) kept = kept
   kept_of Lost kept = kept
 
-pub commits_doubled : {R : Type 0} (rack : Ghosts R) (old new : Double R) → RisesBehind rack old new → StopCommits rack (Doubled old) (Doubled new)
-commits_doubled rack old new rises = record { by = rises }
+pub commits_doubled : {R : Type 0} (rack : Ghosts R) (old new : Double R) → CommitsBehind rack old new → StopCommits rack (Doubled old) (Doubled new)
+commits_doubled rack old new commits = record { by = commits }
 
 pub commits_plain : {R : Type 0} (rack : Ghosts R) (it : R) → StopCommits rack (Plain it) (Plain it)
 commits_plain rack it = record { by = refl }

@@ -1,7 +1,7 @@
 -- A commit of members of a double rack: what it leaves of the rack behind and of what is kept in memory.
 use Rattle.std.proofs.Common.{◌≡◌, ◌≤◌, ◌<◌, ◌+◌, ◌^◌, ◌/◌, ◌++◌, ◌⊎◌, ℕ, zero, suc, Bool, true, false, List, [], length, replicate, refl, sym, ◌∙◌, ap, arith, inl, inr, subst}
 use Rattle.std.specs.Prelude.{◌&&◌, not, if◌then◌else◌, Option, Some, None, IsSome, is_some}
-use Rattle.std.proofs.lemmas.Bool.{false≢true}
+use Rattle.std.proofs.lemmas.Bool.{false_from_ne_true, false≢true}
 use Rattle.dg_io.specs.Kept.{Kept}
 use Rattle.dg_io.specs.MadeLaws.{each_such}
 use Rattle.dg_io.specs.MakesLaws.{makes_made}
@@ -16,6 +16,7 @@ use Rattle.dg_stop.proofs.TriesLemmas.{view_same}
 use Rattle.dg_stop.specs.Anchors.{Holds, IsAnchored}
 use Rattle.dg_stop.specs.Commits.{AreGuarded, IsFresh}
 use Rattle.dg_stop.specs.DoubleCommits.{IsSettled, KeepsCommit, LeavesMembers, Settles, fell_now, tried_kept}
+use Rattle.dg_stop.specs.DoubleLaws.{alone_after, alone_none}
 use Rattle.dg_stop.specs.Doubles.{AreHeld, GuardsAll, KeepsAll, fell_in, keeps_in, known_in, last_in, seen_in, sizes_in, stands_in}
 use Rattle.dg_stop.specs.Headers.{Header, HasHeader}
 use Rattle.dg_stop.specs.Layouts.{SamePages, bit_in, bits_of, double_size, table_size}
@@ -113,6 +114,10 @@ module _ (served serves : List Bool) (commit top : ℕ) (m n : Memory) (is : Com
     not_on q out = each_such (IsServed served) (IsNotOn q)
         (λ call on. subst (IsNotOn q) (sym on.is.on) (λ e. false≢true (sym out ∙ subst (λ (x : ℕ). flag_in served x ≡ true) e on.is.was))) made.calls made.each
 
+    -- nor is one that doesn't stand
+    idle_out : (q : ℕ) → stands_in m q ≡ false → flag_in served q ≡ false
+    idle_out q out = false_from_ne_true (flag_in served q) (λ on. false≢true (sym out ∙ stand q on))
+
     no_blank : (s : ℕ) → Each (IsNoBlankAt s) made.calls
     no_blank s = each_such (IsServed served) (IsNoBlankAt s) (λ call on. subst (IsNoBlankAt s) (sym on.is.on) tt) made.calls made.each
 
@@ -164,6 +169,7 @@ module _ (served serves : List Bool) (commit top : ℕ) (m n : Memory) (is : Com
           (λ x y pages. rw (is.current, is.room) (view_same m.current.items m.room q x y pages)) (tries.pages q);
       stands = λ q. (is.members q).stands;
       behind = behind_at;
+      alone = λ q out. alone_after rack q made.calls a b after (not_on q (idle_out q out));
       told_before = after.told_before;
       rise = after.rise;
       disks = record { rises = after.disks_after.rises; stays = λ s j was. after.disks_after.stays s j (no_blank s) was };
@@ -377,6 +383,7 @@ module _ {S : Type 0} (rack : Ghosts S) (served serves : List Bool) (m n : Memor
     same = same_itself;
     stands = λ q. (is.members q).stands;
     behind = λ q near. refl;
+    alone = λ q out. alone_none rack q a;
     told_before = λ q told. told;
     rise = record { faults = λ q. omega arith; calls = omega arith; writes = omega arith };
     disks = record {

@@ -15,7 +15,7 @@ use Rattle.dg_stop.proofs.Committing.{same_or_not}
 use Rattle.dg_stop.proofs.Keeping.{Carries, Narrows, narrows_guards, narrows_keeps, pages_carry}
 use Rattle.dg_stop.proofs.OneCommit.{same_at, told_both}
 use Rattle.dg_stop.proofs.PieceLemmas.{torn_pages_size}
-use Rattle.dg_stop.specs.DoubleLaws.{both_of, seen_some, some_seen}
+use Rattle.dg_stop.specs.DoubleLaws.{alone_after, alone_none, both_of, seen_some, some_seen}
 use Rattle.dg_stop.specs.Doubles.{AreHeld, Double, DoubleMade, GuardsAll, IsBeside, IsPlainOn, KeepsStill, Steps, double_stands, double_words, fell_in, known_in, last_in, seen_in, sizes_in, stands_in}
 use Rattle.dg_stop.specs.Layouts.{bits_of, double_size, table_size}
 use Rattle.dg_stop.specs.Pages.{TornPages}
@@ -182,12 +182,14 @@ module _ {S T E : Type 0} (rack : Ghosts S) (q : ℕ) (result : Result T E) (m n
     steady_on = serves.steady_on;
     others = λ r far. seen_others q r m n beside far (rack.bytes a r) (rack.bytes b r) (serves.others r far);
     others_stand = beside.stands;
-    others_behind = λ r far. (after a b only.calls only.made).others_stand r (each_such (IsOn q) (IsNotOn r) (λ call on. subst (IsNotOn r) (sym on) (λ e. far (sym e))) only.calls only.each);
+    alone = λ r far. alone_after rack r only.calls a b (after a b only.calls only.made)
+        (each_such (IsOn q) (IsNotOn r) (λ call on. subst (IsNotOn r) (sym on) (λ e. far (sym e))) only.calls only.each);
     stands_on = ok_on result (stands_in n q ≡ true) (stands_in m q ≡ true → stands_in n q ≡ true) (λ is h. is) ok;
     tells = λ r told. some_seen m r (rack.bytes a r) (serves.tells r (seen_some n r (rack.bytes b r) told));
     told_before = (after a b only.calls only.made).told_before;
     rise = (after a b only.calls only.made).rise;
     disks = disks_on q only.calls only.each (rack.disks a) (rack.disks b) (after a b only.calls only.made).disks_after;
+    room = beside.room;
   }
 
 -- ---- calls that reach nothing behind
@@ -214,12 +216,13 @@ module _ {S T E : Type 0} (rack : Ghosts S) (call : RackCall) (q : ℕ) (result 
     steady_on = (λ h. h, λ h. h);
     others = λ r far. seen_others q r m n beside far (rack.bytes a r) (rack.bytes a r) (itself (rack.bytes a r));
     others_stand = beside.stands;
-    others_behind = λ r far. refl;
+    alone = λ r far. alone_none rack r a;
     stands_on = ok_on result (stands_in n q ≡ stands_in m q) (stands_in m q ≡ true → stands_in n q ≡ true) (λ is h. is ∙ h) ok;
     tells = λ r told. some_seen m r (rack.bytes a r) (seen_some n r (rack.bytes a r) told);
     told_before = λ r h. h;
     rise = record { faults = λ r. omega arith; calls = omega arith; writes = omega arith };
     disks = disks_none (rack.disks a) call;
+    room = beside.room;
   }
 
 module _ {S : Type 0} (rack : Ghosts S) (m n : Memory) (a : S) (less : Narrows m n) where
@@ -254,7 +257,7 @@ rises q result old new tally r = elim (same_or_not r q) [
 module _ {S T E : Type 0} (rack : Ghosts S) (call : RackCall) (q : ℕ) (on : member_of call ≡ q) (result : Result T E) (old new : Double S)
     (steps : Steps rack call q result old.memory new.memory old.rack new.rack) (tally : TallySteps q result old.tally new.tally) where
   stand_far : (r : ℕ) → r ≢ q → double_stands rack new r ≡ double_stands rack old r
-  stand_far r far = ap (λ (x : Bool). x && rack.stands new.rack r) (steps.others_stand r far) ∙ ap (λ (x : Bool). stands_in old.memory r && x) (steps.others_behind r far)
+  stand_far r far = ap (λ (x : Bool). x && rack.stands new.rack r) (steps.others_stand r far) ∙ ap (λ (x : Bool). stands_in old.memory r && x) (steps.alone r far).stands
 
   pub stand_own : stands_in new.memory q ≡ true → double_stands rack new q ≡ true
   stand_own at = ap (λ (x : Bool). x && rack.stands new.rack q) at ∙ (steps.held.sized q at).stands
@@ -306,4 +309,6 @@ module _ {S T E : Type 0} (rack : Ghosts S) (call : RackCall) (q : ℕ) (on : me
           (subst (λ (x : ℕ). slice_index old.tally.faults x < slice_index new.tally.faults x) e rose))
       | inr far ↦ absurd (omega (arith, tally.others r far, rose))
     ];
+    alone = λ r each. (steps.alone r (λ e. each.0 (on ∙ sym e)), steps.others_stand r (λ e. each.0 (on ∙ sym e)));
+    room = steps.room;
   }

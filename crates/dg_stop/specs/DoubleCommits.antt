@@ -9,7 +9,7 @@ use Rattle.dg_io.specs.Told.{IsSame, Told}
 use Rattle.dg_io.specs.declared.outside.Rack.{Ghosts}
 use Rattle.dg_model.specs.Causes.{Rose}
 use Rattle.dg_model.specs.States.{CountsRise}
-use Rattle.dg_stop.specs.Doubles.{AreHeld, Double, DoubleMade, IsDue, double_bytes, double_counts, double_disks, double_keeps, double_name, double_stands, double_steady, double_tells, fell_in, keeps_in, seen_in, stands_in}
+use Rattle.dg_stop.specs.Doubles.{AreHeld, Double, DoubleMade, IsDue, LeavesAlone, double_bytes, double_counts, double_disks, double_keeps, double_name, double_stands, double_steady, double_tells, fell_in, keeps_in, seen_in, stands_in}
 use Rattle.dg_stop.specs.Phases.{bits_in, flag_in}
 use Rattle.dg_stop.specs.declared.memories.Memory.{Memory}
 use Rattle.dg_stop.specs.declared.tallies.Tally.{Tally}
@@ -93,6 +93,8 @@ pub record LeavesMembers {S : Type 0} (rack : Ghosts S) (served serves : List Bo
   pub same : (q : ℕ) → Told IsSame (seen_in memory q (rack.bytes old q)) (seen_in later q (rack.bytes new q))
   pub stands : (q : ℕ) → stands_in later q ≡ (if fell_now served serves q then false else stands_in memory q)
   pub behind : (q : ℕ) → fell_now served serves q ≡ false → rack.stands new q ≡ rack.stands old q
+  -- a member that doesn't stand isn't called
+  pub alone : (q : ℕ) → stands_in memory q ≡ false → LeavesAlone rack q old new
   pub told_before : (q : ℕ) → rack.tells new q → rack.tells old q
   pub rise : CountsRise (rack.counts old) (rack.counts new)
   pub disks : DisksFall (rack.disks old) (rack.disks new)
@@ -131,9 +133,13 @@ double_rack rack = record {
   made = DoubleMade rack;
 }
 
--- what a commit may leave of it, beside its members: no count behind fell
-pub record RisesBehind {R : Type 0} (rack : Ghosts R) (old new : Double R) : Type 0 where
+-- what a commit may leave of it, beside what it means as a rack
+pub record CommitsBehind {R : Type 0} (rack : Ghosts R) (old new : Double R) : Type 0 where
+  -- no count behind fell
   pub rise : CountsRise (rack.counts old.rack) (rack.counts new.rack)
+  -- A member that doesn't stand in memory is left alone behind, and doesn't stand then.
+  pub alone : (q : ℕ) → stands_in old.memory q ≡ false → LeavesAlone rack q old.rack new.rack × (stands_in new.memory q ≡ false)
+  pub room : new.memory.room ≡ old.memory.room
 
 -- the room for extra bytes
 abbrev pub double_room : {R : Type 0} → Double R → Option ℕ

@@ -1,14 +1,14 @@
 -- Calls of a double rack leave what each of them leaves.
-use Rattle.std.specs.Prelude.{◌≡◌, ◌<◌, ◌≤◌, ◌&&◌, ◌++◌, ℕ, Bool, true, false, List, [], Option, Some, None, IsSome, refl, slice_index}
-use Rattle.std.proofs.Common.{arith, inl, inr}
+use Rattle.std.specs.Prelude.{◌≡◌, ◌≤◌, ◌&&◌, ◌++◌, ℕ, Bool, true, false, List, [], Option, Some, None, IsSome, refl, slice_index}
+use Rattle.std.proofs.Common.{◌∙◌, arith, inl, inr}
 use Rattle.std.proofs.lemmas.Bool.{cases_lt, false≢true}
-use Rattle.dg_io.specs.MadeLaws.{after_both, after_none, each_back, each_front}
-use Rattle.dg_io.specs.RackCalls.{RackCall}
+use Rattle.dg_io.specs.MadeLaws.{after_both, after_none, each_back, each_front, same_both, same_told}
+use Rattle.dg_io.specs.RackCalls.{Each, IsNotOn, RackCall}
 use Rattle.dg_io.specs.RackWords.{After}
 use Rattle.dg_io.specs.declared.outside.Rack.{Ghosts}
 use Rattle.dg_model.specs.Causes.{Rose}
 use Rattle.dg_model.specs.States.{Counts, CountsRise}
-use Rattle.dg_stop.specs.Doubles.{Double, DoubleMade, double_bytes, double_counts, double_disks, double_keeps, double_name, double_stands, double_steady, double_tells, double_words, seen_in, stands_in}
+use Rattle.dg_stop.specs.Doubles.{Double, DoubleMade, LeavesAlone, double_bytes, double_counts, double_disks, double_keeps, double_name, double_stands, double_steady, double_tells, double_words, seen_in, stands_in}
 use Rattle.dg_stop.specs.declared.memories.Memory.{Memory}
 
 pub seen_some : (m : Memory) (q : ℕ) (x : Option (List ℕ)) → IsSome (seen_in m q x) → IsSome x
@@ -44,12 +44,30 @@ rise_both a b c first second = record {
   writes = omega (arith, first.writes, second.writes);
 }
 
+-- a member that is left alone behind
+module _ {S : Type 0} (rack : Ghosts S) (q : ℕ) where
+  pub alone_none : (a : S) → LeavesAlone rack q a a
+  alone_none a = record { bytes = same_told (rack.bytes a q); faults = refl; stands = refl }
+
+  pub alone_both : (a b c : S) → LeavesAlone rack q a b → LeavesAlone rack q b c → LeavesAlone rack q a c
+  alone_both a b c first second = record {
+    bytes = same_both (rack.bytes a q) (rack.bytes b q) (rack.bytes c q) first.bytes second.bytes;
+    faults = second.faults ∙ first.faults;
+    stands = second.stands ∙ first.stands;
+  }
+
+  -- none of the calls was on it
+  pub alone_after : (calls : List RackCall) (a b : S) → After rack calls a b → Each (IsNotOn q) calls → LeavesAlone rack q a b
+  alone_after calls a b after each = record { bytes = after.other_bytes q each; faults = after.other_faults q each; stands = after.others_stand q each }
+
 module _ {R : Type 0} (rack : Ghosts R) where
   pub double_none : (s : Double R) → DoubleMade rack s [] s
   double_none s = record {
     after = after_none (double_name rack) (double_bytes rack) (double_counts rack) (double_stands rack) (double_steady rack) (double_tells rack) (double_keeps rack) (double_disks rack) s;
     behind = record { faults = λ q. omega arith; calls = omega arith; writes = omega arith };
     cause = λ q tells each rose. absurd (omega (arith, rose));
+    alone = λ q each. (alone_none rack q s.rack, refl);
+    room = refl;
   }
 
   pub double_both : (a b c : Double R) (x y : List RackCall) → DoubleMade rack a x b → DoubleMade rack b y c → DoubleMade rack a (x ++ y) c
@@ -61,6 +79,11 @@ module _ {R : Type 0} (rack : Ghosts R) where
       | inl early ↦ rose_then _ _ _ (first.cause q (second.after.told_before q tells) (each_front _ x y each) early) (second.behind.faults q)
       | inr late ↦ then_rose _ _ _ (first.behind.faults q) (second.cause q tells (each_back _ x y each) (omega (arith, rose, late)))
     ];
+    alone = λ q each.
+        let front = first.alone q (each_front _ x y each) in
+        let back = second.alone q (each_back _ x y each) in
+        (alone_both rack q a.rack b.rack c.rack front.0 back.0, back.1 ∙ front.1);
+    room = second.room ∙ first.room;
   }
 
   pub double_after : (a b : Double R) (calls : List RackCall) → DoubleMade rack a calls b → After (double_words rack) calls a b

@@ -2,7 +2,7 @@
 use Rattle.std.specs.Prelude.{◌≡◌, ◌≢◌, ◌≤◌, ◌<◌, ◌^◌, ◌⊎◌, ◌↔◌, ◌&&◌, ℕ, Bool, true, false, List, [], ◌∷◌, Option, Some, None, IsSome, OnOk, Result, length, replicate, slice_get, slice_index}
 use Rattle.dg_io.specs.Disks.{DiskStates, DisksAfter}
 use Rattle.dg_io.specs.Kept.{HasAnother, IsNothing, Kept, without}
-use Rattle.dg_io.specs.RackCalls.{Each, RackCall, blanks, calls, extends, looks}
+use Rattle.dg_io.specs.RackCalls.{Each, IsNotOn, RackCall, blanks, calls, extends, looks}
 use Rattle.dg_io.specs.RackWords.{After}
 use Rattle.dg_io.specs.Told.{IsSame, Told}
 use Rattle.dg_io.specs.declared.outside.Rack.{Ghosts}
@@ -205,6 +205,12 @@ IsPlainOn q (blanks p) = p ≢ q
 IsPlainOn q (calls p) = Unit {0}
 IsPlainOn q (extends p) = p ≢ q
 
+-- a member is left alone behind: it has the bytes, the count of faults and the standing that it had
+pub record LeavesAlone {S : Type 0} (rack : Ghosts S) (q : ℕ) (old new : S) : Type 0 where
+  pub bytes : Told IsSame (rack.bytes old q) (rack.bytes new q)
+  pub faults : (rack.counts new).faults q ≡ (rack.counts old).faults q
+  pub stands : rack.stands new q ≡ rack.stands old q
+
 pub record DoubleMade {R : Type 0} (rack : Ghosts R) (old : Double R) (made : List RackCall) (new : Double R) : Type 0 where
   pub after : After (double_words rack) made old new
   -- no count behind fell
@@ -212,6 +218,9 @@ pub record DoubleMade {R : Type 0} (rack : Ghosts R) (old : Double R) (made : Li
   -- The own count of a member that the rack behind tells rose only where that behind did, unless one of the calls looks for it, makes it anew or extends it.
   pub cause : (q : ℕ) → rack.tells new.rack q → Each (IsPlainOn q) made → slice_index old.tally.faults q < slice_index new.tally.faults q
       → Rose ((rack.counts old.rack).faults q) ((rack.counts new.rack).faults q)
+  -- A member that none of the calls is on is left alone behind, and stands in memory as it did.
+  pub alone : (q : ℕ) → Each (IsNotOn q) made → LeavesAlone rack q old.rack new.rack × (stands_in new.memory q ≡ stands_in old.memory q)
+  pub room : new.memory.room ≡ old.memory.room
 
 -- ---- what a call leaves
 
@@ -231,12 +240,13 @@ pub record Steps {S T E : Type 0} (rack : Ghosts S) (call : RackCall) (q : ℕ) 
   pub steady_on : rack.steady old ↔ rack.steady new
   pub others : (r : ℕ) → r ≢ q → Told IsSame (seen_in memory r (rack.bytes old r)) (seen_in later r (rack.bytes new r))
   pub others_stand : (r : ℕ) → r ≢ q → stands_in later r ≡ stands_in memory r
-  pub others_behind : (r : ℕ) → r ≢ q → rack.stands new r ≡ rack.stands old r
+  pub alone : (r : ℕ) → r ≢ q → LeavesAlone rack r old new
   pub stands_on : OnOk result (stands_in memory q ≡ true → stands_in later q ≡ true)
   pub tells : (r : ℕ) → IsSome (seen_in later r (rack.bytes new r)) → IsSome (seen_in memory r (rack.bytes old r))
   pub told_before : (r : ℕ) → rack.tells new r → rack.tells old r
   pub rise : CountsRise (rack.counts old) (rack.counts new)
   pub disks : DisksAfter (call ∷ []) (rack.disks old) (rack.disks new)
+  pub room : later.room ≡ memory.room
 
 -- what was kept is kept
 abbrev pub KeepsStill : {S : Type 0} → Ghosts S → Memory → Memory → S → S → Type 0

@@ -1,11 +1,11 @@
 -- What a rack over a rack means that is plain, or keeps two places for each page. A plain one is the rack behind, and keeps no checkpoint.
-use Rattle.std.specs.Prelude.{◌≡◌, ◌&&◌, ℕ, Bool, List, Option, None}
+use Rattle.std.specs.Prelude.{◌≡◌, ◌&&◌, ℕ, Bool, true, List, Option, None}
 use Rattle.dg_io.specs.Disks.{DiskStates}
 use Rattle.dg_io.specs.Kept.{Kept}
 use Rattle.dg_io.specs.RackCalls.{RackCall}
 use Rattle.dg_io.specs.declared.outside.Rack.{Ghosts}
 use Rattle.dg_model.specs.States.{Counts}
-use Rattle.dg_stop.specs.DoubleCommits.{RisesBehind, double_room}
+use Rattle.dg_stop.specs.DoubleCommits.{CommitsBehind, double_room}
 use Rattle.dg_stop.specs.Doubles.{DoubleMade, HasNoCalls, IsBlank, double_counts, double_disks, double_keeps, double_name, double_steady, seen_in, stands_in}
 use Rattle.dg_stop.specs.declared.stop_racks.StopRack.{StopRack}
 use Rattle.dg_stop.specs.declared.stop_racks.StopRack.TheVariants.{Plain, Doubled}
@@ -57,6 +57,11 @@ abbrev pub stop_room : {R : Type 0} → StopRack R → Option ℕ
 stop_room (Plain it) = None
 stop_room (Doubled it) = double_room it
 
+-- whether a member stands in memory: of a plain one each does
+abbrev pub stop_stands_in : {R : Type 0} → StopRack R → ℕ → Bool
+stop_stands_in (Plain it) q = true
+stop_stands_in (Doubled it) q = stands_in it.memory q
+
 -- it stays plain or double, and what was made of it was made of that
 abbrev pub made_by : {R : Type 0} → Ghosts R → StopRack R → List RackCall → StopRack R → Type 0
 made_by rack (Plain old) made (Plain new) = rack.made old made new
@@ -67,12 +72,12 @@ made_by rack (Doubled old) made (Doubled new) = DoubleMade rack old made new
 pub record StopMade {R : Type 0} (rack : Ghosts R) (old : StopRack R) (made : List RackCall) (new : StopRack R) : Type 0 where
   pub by : made_by rack old made new
 
--- What a commit may leave of it, beside its members: a plain one is as it was, and a double one stays double, and no count behind fell.
+-- What a commit may leave of it, beside what it means as a rack: a plain one is as it was, and a double one stays double.
 abbrev pub commits_by : {R : Type 0} → Ghosts R → StopRack R → StopRack R → Type 0
 commits_by rack (Plain old) (Plain new) = new ≡ old
 commits_by rack (Plain old) (Doubled new) = ⊥
 commits_by rack (Doubled old) (Plain new) = ⊥
-commits_by rack (Doubled old) (Doubled new) = RisesBehind rack old new
+commits_by rack (Doubled old) (Doubled new) = CommitsBehind rack old new
 
 pub record StopCommits {R : Type 0} (rack : Ghosts R) (old new : StopRack R) : Type 0 where
   pub by : commits_by rack old new

@@ -1,17 +1,18 @@
--- How the counts of a rack that is plain or double go with those of the rack behind it, over calls that read and write. Laws for the crates above.
-use Rattle.std.specs.Prelude.{◌≡◌, ◌≤◌, ◌<◌, ℕ, List, refl}
-use Rattle.std.proofs.Common.{arith, inl, inr, subst, sym}
-use Rattle.std.proofs.lemmas.Bool.{cases_lt}
+-- How the counts of a rack that is plain or double go with those of the rack behind it, over calls that read and write, and which members are left
+-- alone behind. Laws for the crates above.
+use Rattle.std.specs.Prelude.{◌≡◌, ◌≤◌, ◌<◌, ℕ, false, List, Some, refl}
+use Rattle.std.proofs.Common.{ap, arith, inl, inr, subst, sym}
+use Rattle.std.proofs.lemmas.Bool.{cases_lt, false≢true}
 use Rattle.dg_io.specs.MadeLaws.{each_such}
-use Rattle.dg_io.specs.RackCalls.{Each, IsReadOrWrite, RackCall, blanks, calls, extends, looks}
+use Rattle.dg_io.specs.RackCalls.{Each, IsNotOn, IsReadOrWrite, RackCall, blanks, calls, extends, looks}
 use Rattle.dg_io.specs.RackWords.{After, MadeOnly}
 use Rattle.dg_io.specs.declared.outside.Rack.{Ghosts}
 use Rattle.dg_model.specs.Causes.{Rose}
 use Rattle.dg_model.specs.States.{Counts, CountsRise}
-use Rattle.dg_stop.specs.DoubleCommits.{RisesBehind}
-use Rattle.dg_stop.specs.Doubles.{Double, DoubleMade, IsPlainOn}
+use Rattle.dg_stop.specs.DoubleLaws.{alone_after}
+use Rattle.dg_stop.specs.Doubles.{IsPlainOn, LeavesAlone}
 use Rattle.dg_stop.specs.StopCalls.{behind}
-use Rattle.dg_stop.specs.StopRacks.{StopCommits, StopMade, commits_by, made_by, stop_counts, stop_words}
+use Rattle.dg_stop.specs.StopRacks.{StopCommits, StopMade, commits_by, made_by, stop_counts, stop_room, stop_stands_in, stop_words}
 use Rattle.dg_stop.specs.declared.stop_racks.StopRack.{StopRack}
 use Rattle.dg_stop.specs.declared.stop_racks.StopRack.TheVariants.{Plain, Doubled}
 
@@ -107,6 +108,38 @@ module _ {R : Type 0} (rack : Ghosts R) where
     pub only_tied : (a b : StopRack R) → MadeOnly (stop_words rack) IsReadOrWrite a b → RisesWithBehind rack a b
     only_tied a b only = reads_tied a b only.calls only.made only.each
 
+    -- ---- a member that none of the calls is on
+
+    alone_by : (a b : StopRack R) (made : List RackCall) → made_by rack a made b → (q : ℕ) → Each (IsNotOn q) made → LeavesAlone rack q (behind a) (behind b)
+    alone_by (Plain a) (Plain b) made is q each = alone_after rack q made a b (after a b made is) each
+    alone_by (Plain a) (Doubled b) made is q each = absurd is
+    alone_by (Doubled a) (Plain b) made is q each = absurd is
+    alone_by (Doubled a) (Doubled b) made is q each = (is.alone q each).0
+
+    -- it is left alone behind
+    pub calls_alone : (a b : StopRack R) (made : List RackCall) → StopMade rack a made b → (q : ℕ) → Each (IsNotOn q) made → LeavesAlone rack q (behind a) (behind b)
+    calls_alone a b made is = alone_by a b made is.by
+
+  stand_by : (a b : StopRack R) (made : List RackCall) → made_by rack a made b → (q : ℕ) → Each (IsNotOn q) made → stop_stands_in b q ≡ stop_stands_in a q
+  stand_by (Plain a) (Plain b) made is q each = refl
+  stand_by (Plain a) (Doubled b) made is q each = absurd is
+  stand_by (Doubled a) (Plain b) made is q each = absurd is
+  stand_by (Doubled a) (Doubled b) made is q each = (is.alone q each).1
+
+  -- and stands in memory as it did
+  pub calls_stand : (a b : StopRack R) (made : List RackCall) → StopMade rack a made b → (q : ℕ) → Each (IsNotOn q) made → stop_stands_in b q ≡ stop_stands_in a q
+  calls_stand a b made is = stand_by a b made is.by
+
+  room_by : (a b : StopRack R) (made : List RackCall) → made_by rack a made b → stop_room b ≡ stop_room a
+  room_by (Plain a) (Plain b) made is = refl
+  room_by (Plain a) (Doubled b) made is = absurd is
+  room_by (Doubled a) (Plain b) made is = absurd is
+  room_by (Doubled a) (Doubled b) made is = ap (λ (n : ℕ). Some n) is.room
+
+  -- the room for extra bytes is as it was
+  pub calls_room : (a b : StopRack R) (made : List RackCall) → StopMade rack a made b → stop_room b ≡ stop_room a
+  calls_room a b made is = room_by a b made is.by
+
   -- ---- commits
 
   commits_rise_by : (a b : StopRack R) → commits_by rack a b → CountsRise (rack.counts (behind a)) (rack.counts (behind b))
@@ -118,3 +151,33 @@ module _ {R : Type 0} (rack : Ghosts R) where
   -- no count behind falls by a commit
   pub commits_rise : (a b : StopRack R) → StopCommits rack a b → CountsRise (rack.counts (behind a)) (rack.counts (behind b))
   commits_rise a b is = commits_rise_by a b is.by
+
+  commits_alone_by : (a b : StopRack R) → commits_by rack a b → (q : ℕ) → stop_stands_in a q ≡ false → LeavesAlone rack q (behind a) (behind b)
+  commits_alone_by (Plain a) (Plain b) is q out = absurd (false≢true (sym out))
+  commits_alone_by (Plain a) (Doubled b) is q out = absurd is
+  commits_alone_by (Doubled a) (Plain b) is q out = absurd is
+  commits_alone_by (Doubled a) (Doubled b) is q out = (is.alone q out).0
+
+  -- a member that doesn't stand in memory is left alone behind
+  pub commits_alone : (a b : StopRack R) → StopCommits rack a b → (q : ℕ) → stop_stands_in a q ≡ false → LeavesAlone rack q (behind a) (behind b)
+  commits_alone a b is = commits_alone_by a b is.by
+
+  commits_out_by : (a b : StopRack R) → commits_by rack a b → (q : ℕ) → stop_stands_in a q ≡ false → stop_stands_in b q ≡ false
+  commits_out_by (Plain a) (Plain b) is q out = out
+  commits_out_by (Plain a) (Doubled b) is q out = absurd is
+  commits_out_by (Doubled a) (Plain b) is q out = absurd is
+  commits_out_by (Doubled a) (Doubled b) is q out = (is.alone q out).1
+
+  -- and doesn't stand then
+  pub commits_out : (a b : StopRack R) → StopCommits rack a b → (q : ℕ) → stop_stands_in a q ≡ false → stop_stands_in b q ≡ false
+  commits_out a b is = commits_out_by a b is.by
+
+  commits_room_by : (a b : StopRack R) → commits_by rack a b → stop_room b ≡ stop_room a
+  commits_room_by (Plain a) (Plain b) is = refl
+  commits_room_by (Plain a) (Doubled b) is = absurd is
+  commits_room_by (Doubled a) (Plain b) is = absurd is
+  commits_room_by (Doubled a) (Doubled b) is = ap (λ (n : ℕ). Some n) is.room
+
+  -- the room for extra bytes is as it was
+  pub commits_room : (a b : StopRack R) → StopCommits rack a b → stop_room b ≡ stop_room a
+  commits_room a b is = commits_room_by a b is.by

@@ -203,20 +203,20 @@ impl<R: Rack> Checkpoint for DoubleRack<R> {
     ghost use Rattle.std.specs.Prelude.{◌≡◌, ◌≤◌, ℕ, true, length, IfSome};
     ghost use Rattle.dg_io.specs.Commits.{LeavesCommit, is_marked};
     ghost use Rattle.dg_stop.specs.Behind.{MostCalls};
-    ghost use Rattle.dg_stop.specs.DoubleCommits.{RisesBehind, double_rack, double_room};
+    ghost use Rattle.dg_stop.specs.DoubleCommits.{CommitsBehind, double_rack, double_room};
     ghost use Rattle.dg_stop.specs.Doubles.{double_stands};
     ghost use Rattle.dg_stop.specs.StopCalls.{double_commits};
 
     ghost room_of = { double_room };
 
-    ghost commits = { RisesBehind R.Rack };
+    ghost commits = { CommitsBehind R.Rack };
 
     /// Four calls behind on each member of `keep`, and three on each once more for each that fell.
     fn commit(&mut self, keep: u32, extra: &[u8]) -> CommitAnswer
         requires stand { (q : ℕ) → is_marked keep q ≡ true → double_stands R.Rack self.old q ≡ true }
         requires fits { IfSome (double_room self.old) (λ room. length extra.now ≤ room) }
         ensures leaves { LeavesCommit (double_rack R.Rack) double_room keep extra.now result self.old self.new }
-        ensures commits { RisesBehind R.Rack self.old self.new }
+        ensures commits { CommitsBehind R.Rack self.old self.new }
         ensures calls { MostCalls R.Rack (double_commits keep result) self.old.rack self.new.rack }
     {
         let served = flags_of(keep);

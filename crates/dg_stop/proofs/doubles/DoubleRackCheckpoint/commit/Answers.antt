@@ -2,8 +2,8 @@ use Rattle.std.proofs.Common.{◌≡◌, ◌≤◌, true, sym, ◌∙◌, subst,
 use Rattle.std.specs.Prelude.{IfSome, length}
 use Rattle.dg_io.specs.Commits.{LeavesCommit}
 use Rattle.dg_io.specs.declared.checkpoints.CommitAnswer.{CommitAnswer}
-use Rattle.dg_stop.proofs.CommitDouble.{commit_answer}
-use Rattle.dg_stop.specs.DoubleCommits.{RisesBehind, answer_in, double_rack, double_room}
+use Rattle.dg_stop.proofs.CommitDouble.{commit_answer, commits_behind}
+use Rattle.dg_stop.specs.DoubleCommits.{CommitsBehind, answer_in, double_rack, double_room}
 use Rattle.dg_stop.specs.DoubleLaws.{both_of}
 use Rattle.dg_stop.specs.Doubles.{Double, double_stands, stands_in}
 use Rattle.dg_stop.proofs.DoubleCounts.{commit_called}
@@ -40,8 +40,8 @@ pub returns-clause-commits : goal.returns-clause-commits
 returns-clause-commits g c =
     let old : Double g.row.R.Denot = record { rack = c.self.inside.rack; memory = c.self.inside.memory; tally = c.self.inside.tally } in
     let new : Double g.row.R.Denot = record { rack = c.commit_members-made.new.rack; memory = c.commit_members-made.new.memory; tally = c.note_fallen.new.self } in
-    let rises : RisesBehind g.R.Rack old new = record { rise = c.commit_members-made.ensures.leaves.rise } in
-    subst (λ (s : Double g.row.R.Denot). RisesBehind g.R.Rack s new) c.self.view_is rises
+    subst (λ (s : Double g.row.R.Denot). CommitsBehind g.R.Rack s new) c.self.view_is
+    (commits_behind g.R.Rack c.flags_of-served.result c.commit_members-made.new.serving old new c.commit_members-made.ensures.leaves)
 
 pub returns-clause-calls : goal.returns-clause-calls
 returns-clause-calls g c =
