@@ -102,6 +102,9 @@ commits_behind rack served serves old new leaves = record {
   rise = leaves.rise;
   alone = λ q out. (leaves.alone q out, leaves.stands q ∙ still_out (fell_now served serves q) (stands_in old.memory q) out);
   room = leaves.room;
+  same_rack = leaves.same_rack;
+  told_before = leaves.told_before;
+  same = leaves.same;
 }
 
 -- ---- plain or double

@@ -140,6 +140,10 @@ pub record CommitsBehind {R : Type 0} (rack : Ghosts R) (old new : Double R) : T
   -- A member that doesn't stand in memory is left alone behind, and doesn't stand then.
   pub alone : (q : ℕ) → stands_in old.memory q ≡ false → LeavesAlone rack q old.rack new.rack × (stands_in new.memory q ≡ false)
   pub room : new.memory.room ≡ old.memory.room
+  -- it is the same rack, what it tells now it told before, and no member's bytes change
+  pub same_rack : rack.name new.rack ≡ rack.name old.rack
+  pub told_before : (q : ℕ) → rack.tells new.rack q → rack.tells old.rack q
+  pub same : (q : ℕ) → Told IsSame (double_bytes rack old q) (double_bytes rack new q)
 
 -- the room for extra bytes
 abbrev pub double_room : {R : Type 0} → Double R → Option ℕ

@@ -1,5 +1,5 @@
 -- What a rack over a rack means that is plain, or keeps two places for each page. A plain one is the rack behind, and keeps no checkpoint.
-use Rattle.std.specs.Prelude.{◌≡◌, ◌&&◌, ℕ, Bool, true, List, Option, None}
+use Rattle.std.specs.Prelude.{◌≡◌, ◌&&◌, ℕ, Bool, false, List, Option, None}
 use Rattle.dg_io.specs.Disks.{DiskStates}
 use Rattle.dg_io.specs.Kept.{Kept}
 use Rattle.dg_io.specs.RackCalls.{RackCall}
@@ -57,9 +57,9 @@ abbrev pub stop_room : {R : Type 0} → StopRack R → Option ℕ
 stop_room (Plain it) = None
 stop_room (Doubled it) = double_room it
 
--- whether a member stands in memory: of a plain one each does
+-- whether a commit may call a member, since it stands in memory: a plain one makes no call in it
 abbrev pub stop_stands_in : {R : Type 0} → StopRack R → ℕ → Bool
-stop_stands_in (Plain it) q = true
+stop_stands_in (Plain it) q = false
 stop_stands_in (Doubled it) q = stands_in it.memory q
 
 -- it stays plain or double, and what was made of it was made of that

@@ -1,18 +1,19 @@
 -- How the counts of a rack that is plain or double go with those of the rack behind it, over calls that read and write, and which members are left
 -- alone behind. Laws for the crates above.
-use Rattle.std.specs.Prelude.{◌≡◌, ◌≤◌, ◌<◌, ℕ, false, List, Some, refl}
+use Rattle.std.specs.Prelude.{◌≡◌, ◌≤◌, ◌<◌, ℕ, false, IsSome, List, None, Option, Some, refl}
 use Rattle.std.proofs.Common.{ap, arith, inl, inr, subst, sym}
-use Rattle.std.proofs.lemmas.Bool.{cases_lt, false≢true}
+use Rattle.std.proofs.lemmas.Bool.{cases_lt}
 use Rattle.dg_io.specs.MadeLaws.{each_such}
 use Rattle.dg_io.specs.RackCalls.{Each, IsNotOn, IsReadOrWrite, RackCall, blanks, calls, extends, looks}
 use Rattle.dg_io.specs.RackWords.{After, MadeOnly}
+use Rattle.dg_io.specs.Told.{IsSame, StillTold, Told}
 use Rattle.dg_io.specs.declared.outside.Rack.{Ghosts}
 use Rattle.dg_model.specs.Causes.{Rose}
 use Rattle.dg_model.specs.States.{Counts, CountsRise}
-use Rattle.dg_stop.specs.DoubleLaws.{alone_after}
+use Rattle.dg_stop.specs.DoubleLaws.{alone_after, alone_none}
 use Rattle.dg_stop.specs.Doubles.{IsPlainOn, LeavesAlone}
 use Rattle.dg_stop.specs.StopCalls.{behind}
-use Rattle.dg_stop.specs.StopRacks.{StopCommits, StopMade, commits_by, made_by, stop_counts, stop_room, stop_stands_in, stop_words}
+use Rattle.dg_stop.specs.StopRacks.{StopCommits, StopMade, commits_by, made_by, stop_bytes, stop_counts, stop_name, stop_room, stop_stands_in, stop_tells, stop_words}
 use Rattle.dg_stop.specs.declared.stop_racks.StopRack.{StopRack}
 use Rattle.dg_stop.specs.declared.stop_racks.StopRack.TheVariants.{Plain, Doubled}
 
@@ -48,6 +49,12 @@ rise_both a b c first second = record {
 
 rise_none : (a : Counts) → CountsRise a a
 rise_none a = record { faults = λ q. omega arith; calls = omega arith; writes = omega arith }
+
+told_same : (old new : Option (List ℕ)) → Told IsSame old new → IsSome new → IsSome old
+told_same None None same told = told
+told_same None (Some b) same told = absurd same
+told_same (Some a) None same told = absurd (cc told)
+told_same (Some a) (Some b) same told = refl
 
 module _ {R : Type 0} (rack : Ghosts R) where
   -- the counts of a plain one are those behind
@@ -88,6 +95,20 @@ module _ {R : Type 0} (rack : Ghosts R) where
     tied_by (Plain a) (Doubled b) made is q each tells rose = absurd is
     tied_by (Doubled a) (Plain b) made is q each tells rose = absurd is
     tied_by (Doubled a) (Doubled b) made is q each tells rose = is.cause q tells each rose
+
+    name_by : (a b : StopRack R) (made : List RackCall) → made_by rack a made b → rack.name (behind b) ≡ rack.name (behind a)
+    name_by (Plain a) (Plain b) made is = (after a b made is).same_rack
+    name_by (Plain a) (Doubled b) made is = absurd is
+    name_by (Doubled a) (Plain b) made is = absurd is
+    name_by (Doubled a) (Doubled b) made is = is.after.same_rack
+
+    -- it is the same rack behind
+    pub calls_name : (a b : StopRack R) (made : List RackCall) → StopMade rack a made b → rack.name (behind b) ≡ rack.name (behind a)
+    calls_name a b made is = name_by a b made is.by
+
+    -- what it tells now it told before
+    pub calls_told : (a b : StopRack R) (made : List RackCall) → StopMade rack a made b → (q : ℕ) → rack.tells (behind b) q → rack.tells (behind a) q
+    calls_told a b made is = told_by a b made is.by
 
     pub calls_rise : (a b : StopRack R) (made : List RackCall) → StopMade rack a made b → CountsRise (rack.counts (behind a)) (rack.counts (behind b))
     calls_rise a b made is = rise_by a b made is.by
@@ -153,7 +174,7 @@ module _ {R : Type 0} (rack : Ghosts R) where
   commits_rise a b is = commits_rise_by a b is.by
 
   commits_alone_by : (a b : StopRack R) → commits_by rack a b → (q : ℕ) → stop_stands_in a q ≡ false → LeavesAlone rack q (behind a) (behind b)
-  commits_alone_by (Plain a) (Plain b) is q out = absurd (false≢true (sym out))
+  commits_alone_by (Plain a) (Plain b) is q out = subst (λ (s : R). LeavesAlone rack q a s) (sym is) (alone_none rack q a)
   commits_alone_by (Plain a) (Doubled b) is q out = absurd is
   commits_alone_by (Doubled a) (Plain b) is q out = absurd is
   commits_alone_by (Doubled a) (Doubled b) is q out = (is.alone q out).0
@@ -181,3 +202,71 @@ module _ {R : Type 0} (rack : Ghosts R) where
   -- the room for extra bytes is as it was
   pub commits_room : (a b : StopRack R) → StopCommits rack a b → stop_room b ≡ stop_room a
   commits_room a b is = commits_room_by a b is.by
+
+  commits_name_by : (a b : StopRack R) → commits_by rack a b → rack.name (behind b) ≡ rack.name (behind a)
+  commits_name_by (Plain a) (Plain b) is = ap rack.name is
+  commits_name_by (Plain a) (Doubled b) is = absurd is
+  commits_name_by (Doubled a) (Plain b) is = absurd is
+  commits_name_by (Doubled a) (Doubled b) is = is.same_rack
+
+  -- it is the same rack behind
+  pub commits_name : (a b : StopRack R) → StopCommits rack a b → rack.name (behind b) ≡ rack.name (behind a)
+  commits_name a b is = commits_name_by a b is.by
+
+  commits_told_by : (a b : StopRack R) → commits_by rack a b → (q : ℕ) → rack.tells (behind b) q → rack.tells (behind a) q
+  commits_told_by (Plain a) (Plain b) is q told = subst (λ (s : R). rack.tells s q) is told
+  commits_told_by (Plain a) (Doubled b) is q told = absurd is
+  commits_told_by (Doubled a) (Plain b) is q told = absurd is
+  commits_told_by (Doubled a) (Doubled b) is q told = is.told_before q told
+
+  -- what it tells now it told before
+  pub commits_told : (a b : StopRack R) → StopCommits rack a b → (q : ℕ) → rack.tells (behind b) q → rack.tells (behind a) q
+  commits_told a b is = commits_told_by a b is.by
+
+  commits_tell_by : (a b : StopRack R) → commits_by rack a b → (q : ℕ) → IsSome (stop_bytes rack b q) → IsSome (stop_bytes rack a q)
+  commits_tell_by (Plain a) (Plain b) is q told = subst (λ (s : R). IsSome (rack.bytes s q)) is told
+  commits_tell_by (Plain a) (Doubled b) is q told = absurd is
+  commits_tell_by (Doubled a) (Plain b) is q told = absurd is
+  commits_tell_by (Doubled a) (Doubled b) is q told = told_same (double_bytes rack a q) (double_bytes rack b q) (is.same q) told
+
+  -- so were the bytes of each member
+  pub commits_tell : (a b : StopRack R) → StopCommits rack a b → StillTold (stop_bytes rack a) (stop_bytes rack b)
+  commits_tell a b is q told = commits_tell_by a b is.by q told
+
+  -- ---- what a rack means, by the rack behind
+
+  pub name_behind : (it : StopRack R) → stop_name rack it ≡ rack.name (behind it)
+  name_behind (Plain it) = refl
+  name_behind (Doubled it) = refl
+
+  pub tells_behind : (it : StopRack R) (q : ℕ) → stop_tells rack it q → rack.tells (behind it) q
+  tells_behind (Plain it) q told = told
+  tells_behind (Doubled it) q told = told
+
+  pub told_behind : (it : StopRack R) (q : ℕ) → rack.tells (behind it) q → stop_tells rack it q
+  told_behind (Plain it) q told = told
+  told_behind (Doubled it) q told = told
+
+  -- a rack without room for a checkpoint is plain
+  pub is_plain : (it : StopRack R) → stop_room it ≡ None → it ≡ Plain (behind it)
+  is_plain (Plain it) no = refl
+  is_plain (Doubled it) no = absurd (cc no)
+
+  pub plain_counts : (it : StopRack R) → stop_room it ≡ None → stop_counts rack it ≡ rack.counts (behind it)
+  plain_counts (Plain it) no = refl
+  plain_counts (Doubled it) no = absurd (cc no)
+
+  pub plain_bytes : (it : StopRack R) → stop_room it ≡ None → stop_bytes rack it ≡ rack.bytes (behind it)
+  plain_bytes (Plain it) no = refl
+  plain_bytes (Doubled it) no = absurd (cc no)
+
+  pub plain_idle : (it : StopRack R) → stop_room it ≡ None → (q : ℕ) → stop_stands_in it q ≡ false
+  plain_idle (Plain it) no q = refl
+  plain_idle (Doubled it) no q = absurd (cc no)
+
+  -- no count of a plain one fell where none behind did
+  pub plain_rise : (a b : StopRack R) → stop_room a ≡ None → stop_room b ≡ None → CountsRise (rack.counts (behind a)) (rack.counts (behind b))
+      → CountsRise (stop_counts rack a) (stop_counts rack b)
+  plain_rise (Plain a) (Plain b) no none rise = rise
+  plain_rise (Plain a) (Doubled b) no none rise = absurd (cc none)
+  plain_rise (Doubled a) b no none rise = absurd (cc no)

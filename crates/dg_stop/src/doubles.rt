@@ -74,6 +74,13 @@ impl<R: Rack> DoubleRack<R> {
             tally: Tally::new(),
         }
     }
+
+    /// The rack behind.
+    pub(crate) fn into_rack(self) -> R
+        ensures { result ≡ self.rack }
+    {
+        self.rack
+    }
 }
 
 impl<R: Rack> Rack for DoubleRack<R> {

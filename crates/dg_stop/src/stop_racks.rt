@@ -16,6 +16,7 @@ pub enum StopRack<R: Rack> {
 
 impl<R: Rack> StopRack<R> {
     ghost use Rattle.std.specs.Prelude.{◌≡◌};
+    ghost use Rattle.dg_stop.specs.StopCalls.{behind};
     ghost use Rattle.dg_stop.specs.declared.stop_racks.StopRack.TheVariants.{Plain};
 
     /// A plain rack over a rack.
@@ -23,6 +24,16 @@ impl<R: Rack> StopRack<R> {
         ensures { result ≡ Plain rack }
     {
         StopRack::Plain(rack)
+    }
+
+    /// The rack behind. What is kept on it stays.
+    pub fn into_rack(self) -> R
+        ensures { result ≡ behind self }
+    {
+        match self {
+            StopRack::Plain(rack) => rack,
+            StopRack::Doubled(double) => double.into_rack(),
+        }
     }
 }
 
