@@ -19,14 +19,15 @@ use Rattle.dg_run.proofs.Happening.{tied_in}
 use Rattle.dg_run.proofs.Segments.{Begins, Segment, of_replacements, segment, there_by}
 use Rattle.dg_run.specs.Histories.{IsBlankReady, IsReady, Running, below_of, boundaries_of, live_of, running}
 use Rattle.dg_run.specs.Steps.{IsBlankArray, rack_of}
+use Rattle.dg_stop.specs.StopCalls.{behind}
 use Rattle.dg_stop.specs.StopLaws.{stop_after, stop_both, stop_none}
 use Rattle.dg_stop.specs.StopRacks.{stop_bytes, stop_counts, stop_words}
 use Rattle.dg_stop.specs.declared.stop_racks.StopRack.{StopRack}
 use Rattle.dg_store.specs.Leaves.{IsCallOrBlankBelow}
 
--- the rack that comes back in the end is the one below
-pub into_below : {R : Type 0} {x : StopRack R} {y z : LiveRack (StopRack R)} → x ≡ rack_in y → y ≡ z → x ≡ rack_in z
-into_below first second = first ∙ ap (λ it. rack_in it) second
+-- the rack that comes back in the end is the one behind that below
+pub behind_below : {R : Type 0} {x : R} {w : StopRack R} {y z : LiveRack (StopRack R)} → x ≡ behind w → w ≡ rack_in y → y ≡ z → x ≡ behind (rack_in z)
+behind_below first second third = first ∙ ap (λ it. behind it) (second ∙ ap (λ it. rack_in it) third)
 
 module _ {R : Type 0} (rack : Ghosts R) (none : (s : R) → rack.made s [] s) (both : (a b c : R) (x y : List RackCall) → rack.made a x b → rack.made b y c → rack.made a (x ++ y) c)
     (law : (a b : R) (made : List RackCall) → rack.made a made b → After rack made a b) where

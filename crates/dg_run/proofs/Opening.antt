@@ -357,7 +357,7 @@ module _ {R : Type 0} (rack : Ghosts R) (none : (s : R) → rack.made s [] s) (b
     }
 
     -- it is plain still
-    no_last : stop_room (below_of b) ≡ None
+    pub no_last : stop_room (below_of b) ≡ None
     no_last = goes.later.room ∙ no_first
 
     -- what the rack tells in the end
@@ -541,6 +541,13 @@ module _ {R : Type 0} (rack : Ghosts R) (none : (s : R) → rack.made s [] s) (b
     taken = taken;
     given = given;
   }
+
+  -- a plain rack is plain still
+  pub room_still : LeavesRead (running rack) start now → stop_room (rack_in now) ≡ stop_room (rack_in start)
+  room_still leaves =
+      let begun = begun_of (stop_words rack) start now all_in fresh leaves.made in
+      let whole = makes_made (stop_words rack) IsCallOfOpening (stop_none rack none) (stop_both rack both) (rack_in start) (rack_in now) begun.made in
+      calls_room rack (rack_in start) (rack_in now) whole.calls whole.made
 
   pub name_still : LeavesRead (running rack) start now → (stop_words rack).name (rack_in now) ≡ (stop_words rack).name (rack_in start)
   name_still leaves = name_first (stop_words rack) (stop_none rack none) (stop_both rack both) (stop_after rack law) start now (begun_of (stop_words rack) start now all_in fresh leaves.made)

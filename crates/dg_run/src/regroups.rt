@@ -11,6 +11,7 @@ use crate::replies::regroup_reply;
 use crate::serve::send;
 use dg_io::{Rack, Sink};
 use dg_regroup::{LiveRack, names_tell_boundaries};
+use dg_stop::StopRack;
 use std::alloc::Global;
 
 /// Takes the lost boundaries out of use, and writes the reply.

@@ -167,13 +167,15 @@ fn replay_array<S: Source, K: Sink, R: Rack + Drop>(
     ensures err_lines { OnErr result (LeavesLines 255 K.whole K.calls K.taken sink.old sink.new) }
     ensures never { IfOk result (λ end. IsOfReplay end.status) }
 {
-    let live = LiveRack::of_all(alloc, rack)?;
+    let plain = StopRack::plain(rack);
+    let live = LiveRack::of_all(alloc, plain)?;
     let mut array = Array::new(alloc, live, shape)?;
     let status = serve_array(alloc, input, source, sink, &mut array, first);
     let Array { volume, .. } = array;
     let left = volume.into_rack();
+    let stop = left.into_rack();
     Ok(Ended {
-        rack: left.into_rack(),
+        rack: stop.into_rack(),
         status,
     })
 }

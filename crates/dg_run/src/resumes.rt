@@ -118,26 +118,34 @@ fn resume<S: Source, K: Sink, R: Rack + Drop>(
     ensures reads { LeavesSource S.calls S.left 1 source.old source.new }
 {
     let mut input = Input::new(alloc)?;
-    let live = LiveRack::of_all(alloc, rack)?;
+    let plain = StopRack::plain(rack);
+    let live = LiveRack::of_all(alloc, plain)?;
     match open(alloc, live)? {
         OpenAnswer::Opened(volume, hot) => {
             let mut array = Array { volume, hot };
             let status = resume_array(alloc, &mut input, source, sink, &mut array);
             let Array { volume, .. } = array;
             let left = volume.into_rack();
+            let stop = left.into_rack();
             Ok(Ended {
-                rack: left.into_rack(),
+                rack: stop.into_rack(),
                 status,
             })
         }
-        OpenAnswer::NoState(live) => Ok(Ended {
-            rack: live.into_rack(),
-            status: tell_no_state(sink),
-        }),
-        OpenAnswer::Unclean(live) => Ok(Ended {
-            rack: live.into_rack(),
-            status: tell_unclean(sink),
-        }),
+        OpenAnswer::NoState(live) => {
+            let stop = live.into_rack();
+            Ok(Ended {
+                rack: stop.into_rack(),
+                status: tell_no_state(sink),
+            })
+        }
+        OpenAnswer::Unclean(live) => {
+            let stop = live.into_rack();
+            Ok(Ended {
+                rack: stop.into_rack(),
+                status: tell_unclean(sink),
+            })
+        }
     }
 }
 
