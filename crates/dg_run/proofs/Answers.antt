@@ -5,6 +5,7 @@ use Rattle.dg_model.specs.declared.events.Event.{Event}
 use Rattle.dg_model.specs.declared.replies.Reply.{Reply}
 use Rattle.dg_io.specs.Told.{Told, Took, TookPart}
 use Rattle.dg_io.specs.declared.outside.Rack.{Ghosts}
+use Rattle.dg_run.specs.declared.arrays.Array.{Array}
 use Rattle.dg_text.specs.Replies.{reply_line}
 use Rattle.dg_run.specs.Histories.{EventAnswered, EventCut, RunsTo, VolumeRunsTo, Running}
 use Rattle.dg_run.specs.Steps.{Answered, AnsweredPart, StepsTo, VolumeStepsTo}

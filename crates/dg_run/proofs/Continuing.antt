@@ -12,7 +12,7 @@ use Rattle.dg_io.specs.RackCalls.{RackCall, IsNotOn}
 use Rattle.dg_io.specs.RackCalls.RackCall.{blanks, calls, extends, looks}
 use Rattle.dg_io.specs.RackWords.{After}
 use Rattle.dg_io.specs.Reduced.{places_left}
-use Rattle.dg_io.specs.Told.{IsSame, Told}
+use Rattle.dg_io.specs.Told.{StillTold}
 use Rattle.dg_io.specs.declared.outside.Rack.{Ghosts}
 use Rattle.dg_model.specs.Lives.{all_live, boundary_at, member_at}
 use Rattle.dg_model.specs.States.{CountsRise}

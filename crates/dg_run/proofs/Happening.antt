@@ -133,21 +133,21 @@ module _ {R : Type 0} (rack : Ghosts R) (none : (s : R) → rack.made s [] s) (b
 
   pub happens : {K : Type 0} (old new : Standing (StopRack R)) (event : Event) (reply : Reply) → stop_room old.rack ≡ None → Leading rack K old event reply new
       → Happens K plain (on_pairs rack old) event reply (on_pairs rack new)
-  happens old new event reply no h = let later = later_went rack none both law event new.state.boundaries old.rack new.rack h.went in record {
+  happens old new event reply lacks h = let later = later_went rack none both law event new.state.boundaries old.rack new.rack h.went in record {
     step = h.step;
-    allowed = allowed_of (on_pairs rack old) (on_pairs rack new) event reply (subst (λ (room : Option ℕ). AnswersBy old.state event reply room) no h.answers);
-    rise = plain_rise rack old.rack new.rack no (later.room ∙ no) later.rise;
+    allowed = allowed_of (on_pairs rack old) (on_pairs rack new) event reply (subst (λ (room : Option ℕ). AnswersBy old.state event reply room) lacks h.answers);
+    rise = plain_rise rack old.rack new.rack lacks (later.room ∙ lacks) later.rise;
     tied = h.tied;
   }
 
   pub history_of : (K : Type 0) (old : Standing (StopRack R)) (events : List Event) (replies : List Reply) (new : Standing (StopRack R)) → stop_room old.rack ≡ None
       → Course rack K old events replies new → History K plain (on_pairs rack old) events replies (on_pairs rack new)
-  history_of K old [] [] new no h = ap (λ (s : Standing (StopRack R)). on_pairs rack s) h
-  history_of K old [] (reply ∷ replies) new no h = absurd h
-  history_of K old (event ∷ events) [] new no h = absurd h
-  history_of K old (event ∷ events) (reply ∷ replies) new no h =
+  history_of K old [] [] new lacks h = ap (λ (s : Standing (StopRack R)). on_pairs rack s) h
+  history_of K old [] (reply ∷ replies) new lacks h = absurd h
+  history_of K old (event ∷ events) [] new lacks h = absurd h
+  history_of K old (event ∷ events) (reply ∷ replies) new lacks h =
       let later = later_went rack none both law event h.0.state.boundaries old.rack h.0.rack h.1.went in
-      (on_pairs rack h.0, happens old h.0 event reply no h.1, history_of K h.0 events replies new (later.room ∙ no) h.2)
+      (on_pairs rack h.0, happens old h.0 event reply lacks h.1, history_of K h.0 events replies new (later.room ∙ lacks) h.2)
 
   -- what is known by the line is known of the volume
   known_of : {P : Type 0} (b : Running R) → IsReady rack b → KnownBy P (stop_words rack) b → Known P (running rack) b

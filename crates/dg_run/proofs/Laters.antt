@@ -141,7 +141,7 @@ module _ {R : Type 0} (rack : Ghosts R) (none : (s : R) → rack.made s [] s) (b
   went_plain (MakeArray s) is bound x y made = made
   went_plain (Safe s) is bound x y made = made
   went_plain (Parity s n) is bound x y made = made
-  went_plain (Write b x) is bound x y made = made
+  went_plain (Write b bytes) is bound x y made = made
   went_plain (Read b) is bound x y made = made
   went_plain (Fail s j) is bound x y made = made
   went_plain (Replace s j) is bound x y made = absurd (cc is)
@@ -195,7 +195,7 @@ module _ {R : Type 0} (rack : Ghosts R) (none : (s : R) → rack.made s [] s) (b
 
   -- by a save, which may make a checkpoint
   module _ (a b : Running R) (ready : IsReady rack a) (k : KeepsSaved any_phase (running rack) (live_room stop_room) (LiveCommits (StopCommits rack)) a.volume b.volume) where
-    mid : Running R
+    abbrev mid : Running R
     mid = record { volume = k.mid; hot = a.hot }
 
     saved : ContinuesBy (stop_words rack) IsCallOrExtendBelow a mid
@@ -211,7 +211,7 @@ module _ {R : Type 0} (rack : Ghosts R) (none : (s : R) → rack.made s [] s) (b
           sound = sound;
           longer = begins.longer;
           places = begins.places;
-          whole = whole_on (stop_words rack) mid b same_in k.live (boundaries ∙ sym saved.boundaries) saved.ready.whole;
+          whole = whole_on (stop_words rack) (stop_none rack none) (stop_both rack both) (stop_after rack law) mid b same_in k.live (boundaries ∙ sym saved.boundaries) saved.ready.whole;
           calls = k.commits.beside.calls ∙ saved.ready.calls;
           writes = k.commits.beside.writes ∙ saved.ready.writes;
         }
@@ -250,7 +250,7 @@ module _ {R : Type 0} (rack : Ghosts R) (none : (s : R) → rack.made s [] s) (b
   continues_by a b ready leaves = (goes_plain Settle refl a b ready leaves).on
 
   pub continues_none : (a : Running R) → IsReady rack a → Continues rack a a
-  continues_none a ready = (goes_none {Settle} (λ bound x y made. made) a ready).on
+  continues_none a ready = (goes_none {event = Settle} (λ bound x y made. made) a ready).on
 
   -- where memory was wanting for taking boundaries out of use
   pub continues_wanting : (a b : Running R) → IsReady rack a → GoesOn any_phase (running rack) a.volume b.volume → KeepsOrLeaves (running rack) live_count DropsBoundaries a.volume b.volume

@@ -9,6 +9,7 @@ mod Ended
 mod FileParts
 mod Happening
 mod Inputs
+mod Laters
 mod LentLines
 mod LineFeeds
 mod LostReplies
@@ -17,12 +18,13 @@ mod Opening
 mod PathReplies
 mod PendingLists
 mod Placed
+mod Plainly
 mod Ranges
 mod Refusing
 mod Regrouping
 mod Resuming
+mod Runs
 mod Segments
 mod SourceSteps
-mod Runs
 mod ToldSteps
 mod Whole

@@ -336,12 +336,12 @@ module _ {R : Type 0} (rack : Ghosts R) (none : (s : R) → rack.made s [] s) (b
 
   -- ---- what came of it
 
-  module _ (b : Running R) (goes : Continues rack a b) (no : stop_room (rack_in start) ≡ None) (left rest taken given : Option (List ℕ)) where
+  module _ (b : Running R) (goes : Continues rack a b) (lacks : stop_room (rack_in start) ≡ None) (left rest taken given : Option (List ℕ)) where
     -- the rack was plain when it was opened
     no_first : stop_room (below_of a) ≡ None
     no_first =
         let whole = makes_made (stop_words rack) IsCallOfOpening (stop_none rack none) (stop_both rack both) (rack_in start) (below_of a) begun.made in
-        calls_room rack (rack_in start) (below_of a) whole.calls whole.made ∙ no
+        calls_room rack (rack_in start) (below_of a) whole.calls whole.made ∙ lacks
 
     -- what the call met
     abbrev pub met : Facts

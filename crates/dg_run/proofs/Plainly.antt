@@ -15,6 +15,6 @@ use Rattle.dg_stop.specs.declared.stop_racks.StopRack.TheVariants.{Plain, Double
 pub ends_plain : {S K R : Type 0} (source_ghosts : sources.Ghosts S) (sink_ghosts : sinks.Ghosts K) (rack : racks.Ghosts R) (a b : S) (c d : K) (before : R) (x y : StopRack R) (status : Status)
     → x ≡ Plain before → stop_room y ≡ None → EndsResume (stop_tells rack y) (facts_of source_ghosts sink_ghosts (stop_words rack) a b c d x y) status
     → EndsResume (rack.tells (behind y)) (facts_of source_ghosts sink_ghosts rack a b c d before (behind y)) status
-ends_plain {R = R} source_ghosts sink_ghosts rack a b c d before x (Plain y) status same no ends =
+ends_plain {R = R} source_ghosts sink_ghosts rack a b c d before x (Plain y) status same lacks ends =
     subst (λ (s : StopRack R). EndsResume (stop_tells rack (Plain y)) (facts_of source_ghosts sink_ghosts (stop_words rack) a b c d s (Plain y)) status) same ends
-ends_plain source_ghosts sink_ghosts rack a b c d before x (Doubled y) status same no ends = absurd (cc no)
+ends_plain source_ghosts sink_ghosts rack a b c d before x (Doubled y) status same lacks ends = absurd (cc lacks)

@@ -60,16 +60,16 @@ module _ (shape : Shape) where
 
 module _ {R : Type 0} (rack : Ghosts R) (none : (s : R) → rack.made s [] s) (both : (a b c : R) (x y : List RackCall) → rack.made a x b → rack.made b y c → rack.made a (x ++ y) c)
     (law : (a b : R) (made : List RackCall) → rack.made a made b → After rack made a b) (start : LiveRack (StopRack R)) (all_in : live_in start ≡ all_live 16) (none_absent : HasNoneAbsent start)
-    (a b : Running R) (opened : HasOpened (running rack) start a.volume a.hot) (goes : Continues rack a b) (no : stop_room (rack_in start) ≡ None) (unread kept : List ℕ) (fresh : unread ≡ []) (left rest taken given : Option (List ℕ)) where
+    (a b : Running R) (opened : HasOpened (running rack) start a.volume a.hot) (goes : Continues rack a b) (lacks : stop_room (rack_in start) ≡ None) (unread kept : List ℕ) (fresh : unread ≡ []) (left rest taken given : Option (List ℕ)) where
   -- what was met of the rack below, what that tells in the end, and what the array was opened from
   abbrev pub facts : Facts
-  facts = met rack none both law start all_in none_absent a opened b goes no left rest taken given
+  facts = met rack none both law start all_in none_absent a opened b goes lacks left rest taken given
 
   abbrev pub tells : ℕ → Type 0
   tells = (stop_words rack).tells (below_of b)
 
   abbrev began : HasSource (met_by facts) ((stop_words rack).counts (below_of a))
-  began = from rack none both law start all_in none_absent a opened b goes no left rest taken given
+  began = from rack none both law start all_in none_absent a opened b goes lacks left rest taken given
 
   abbrev pub first_left : Option (List ℕ)
   first_left = option_map (λ more. unread ++ more) left
@@ -86,10 +86,10 @@ module _ {R : Type 0} (rack : Ghosts R) (none : (s : R) → rack.made s [] s) (b
   ran_on events replies placed budget runs = record {
     opened = (stop_words rack).counts (below_of a);
     source = began;
-    rise = rise rack none both law start all_in none_absent a opened b goes no left rest taken given;
-    others = others rack none both law start all_in none_absent a opened b goes no left rest taken given;
+    rise = rise rack none both law start all_in none_absent a opened b goes lacks left rest taken given;
+    others = others rack none both law start all_in none_absent a opened b goes lacks left rest taken given;
     lines = lines_on events placed budget;
-    runs = λ V size. reached rack none both law start all_in none_absent a opened b goes no left rest taken given V size events replies runs;
+    runs = λ V size. reached rack none both law start all_in none_absent a opened b goes lacks left rest taken given V size events replies runs;
   }
 
   abbrev wanted_on : (events : List Event) (replies : List Reply) → All (IsInPlace (Some (shape_of a))) events → length (input_of events) ≤ 2 ^ 40 → RunsBefore rack a events replies b
@@ -97,9 +97,9 @@ module _ {R : Type 0} (rack : Ghosts R) (none : (s : R) → rack.made s [] s) (b
   wanted_on events replies placed budget runs = record {
     opened = (stop_words rack).counts (below_of a);
     source = began;
-    rise = rise rack none both law start all_in none_absent a opened b goes no left rest taken given;
+    rise = rise rack none both law start all_in none_absent a opened b goes lacks left rest taken given;
     lines = lines_on events placed budget;
-    runs = λ V size. resumed rack none both law start all_in none_absent a opened b goes no left rest taken given V size events replies runs;
+    runs = λ V size. resumed rack none both law start all_in none_absent a opened b goes lacks left rest taken given V size events replies runs;
   }
 
   served_to : (number : ℕ) (kind : Kind) (z w : Option (List ℕ)) → (s : ServedTo rack (shape_of a) 0 1 number kind first_left last_left z w a b)

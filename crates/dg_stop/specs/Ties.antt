@@ -11,7 +11,7 @@ use Rattle.dg_io.specs.declared.outside.Rack.{Ghosts}
 use Rattle.dg_model.specs.Causes.{Rose}
 use Rattle.dg_model.specs.States.{Counts, CountsRise}
 use Rattle.dg_stop.specs.DoubleLaws.{alone_after, alone_none}
-use Rattle.dg_stop.specs.Doubles.{IsPlainOn, LeavesAlone}
+use Rattle.dg_stop.specs.Doubles.{Double, DoubleMade, IsPlainOn, LeavesAlone, double_bytes, stands_in}
 use Rattle.dg_stop.specs.StopCalls.{behind}
 use Rattle.dg_stop.specs.StopRacks.{StopCommits, StopMade, commits_by, made_by, stop_bytes, stop_counts, stop_name, stop_room, stop_stands_in, stop_tells, stop_words}
 use Rattle.dg_stop.specs.declared.stop_racks.StopRack.{StopRack}
@@ -249,24 +249,24 @@ module _ {R : Type 0} (rack : Ghosts R) where
 
   -- a rack without room for a checkpoint is plain
   pub is_plain : (it : StopRack R) → stop_room it ≡ None → it ≡ Plain (behind it)
-  is_plain (Plain it) no = refl
-  is_plain (Doubled it) no = absurd (cc no)
+  is_plain (Plain it) lacks = refl
+  is_plain (Doubled it) lacks = absurd (cc lacks)
 
   pub plain_counts : (it : StopRack R) → stop_room it ≡ None → stop_counts rack it ≡ rack.counts (behind it)
-  plain_counts (Plain it) no = refl
-  plain_counts (Doubled it) no = absurd (cc no)
+  plain_counts (Plain it) lacks = refl
+  plain_counts (Doubled it) lacks = absurd (cc lacks)
 
   pub plain_bytes : (it : StopRack R) → stop_room it ≡ None → stop_bytes rack it ≡ rack.bytes (behind it)
-  plain_bytes (Plain it) no = refl
-  plain_bytes (Doubled it) no = absurd (cc no)
+  plain_bytes (Plain it) lacks = refl
+  plain_bytes (Doubled it) lacks = absurd (cc lacks)
 
   pub plain_idle : (it : StopRack R) → stop_room it ≡ None → (q : ℕ) → stop_stands_in it q ≡ false
-  plain_idle (Plain it) no q = refl
-  plain_idle (Doubled it) no q = absurd (cc no)
+  plain_idle (Plain it) lacks q = refl
+  plain_idle (Doubled it) lacks q = absurd (cc lacks)
 
   -- no count of a plain one fell where none behind did
   pub plain_rise : (a b : StopRack R) → stop_room a ≡ None → stop_room b ≡ None → CountsRise (rack.counts (behind a)) (rack.counts (behind b))
       → CountsRise (stop_counts rack a) (stop_counts rack b)
-  plain_rise (Plain a) (Plain b) no none rise = rise
-  plain_rise (Plain a) (Doubled b) no none rise = absurd (cc none)
-  plain_rise (Doubled a) b no none rise = absurd (cc no)
+  plain_rise (Plain a) (Plain b) lacks none rise = rise
+  plain_rise (Plain a) (Doubled b) lacks none rise = absurd (cc none)
+  plain_rise (Doubled a) b lacks none rise = absurd (cc lacks)

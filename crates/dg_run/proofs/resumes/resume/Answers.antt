@@ -26,12 +26,12 @@ returns-in-Opened-clause-ends g c =
     let start = c.in_ok-live.live in
     let s = c.resume_array-status in
     let from = c.in_ok-live.ensures.rack ∙ c.plain.ensures in
-    let no = ap stop_room from in
+    let lacks = ap stop_room from in
     let a : Running g.row.R.Denot = record { volume = c.in-Opened.volume; hot = c.in-Opened.hot } in
-    let all = ends_resume g.R.Rack law.made_none law.made_both law.after start c.in_ok-live.ensures.live c.in_ok-live.ensures.none a s.new.array opened s.ensures.goes no
+    let all = ends_resume g.R.Rack law.made_none law.made_both law.after start c.in_ok-live.ensures.live c.in_ok-live.ensures.none a s.new.array opened s.ensures.goes lacks
     (unread c.in_ok-input.input) (unread s.new.input) c.in_ok-input.ensures (g.S.Source.left c.args.source.now) (g.S.Source.left s.new.source) (g.K.Sink.taken c.args.sink.now) (g.K.Sink.taken s.new.sink)
     s.result s.ensures.done s.ensures.bad_line s.ensures.broken s.ensures.part s.ensures.wanting s.ensures.never in
-    let none = no_last g.R.Rack law.made_none law.made_both law.after start c.in_ok-live.ensures.live c.in_ok-live.ensures.none a opened s.new.array s.ensures.goes no
+    let none = no_last g.R.Rack law.made_none law.made_both law.after start c.in_ok-live.ensures.live c.in_ok-live.ensures.none a opened s.new.array s.ensures.goes lacks
     (g.S.Source.left c.args.source.now) (g.S.Source.left s.new.source) (g.K.Sink.taken c.args.sink.now) (g.K.Sink.taken s.new.sink) in
     let here = ends_plain g.S.Source g.K.Sink g.R.Rack c.args.source.now s.new.source c.args.sink.now s.new.sink c.args.rack (rack_in start) (below_of s.new.array) s.result from none all in
     let end = c.into_rack.ensures ∙ ap (λ it. behind it) (c.into_rack-stop.ensures ∙ ap rack_in c.into_rack-left.ensures) in
