@@ -106,12 +106,14 @@ pub record CannotSave {S R : Type 0} (room : R → Option ℕ) (volume : Volume 
   pub plain : room (rack_of volume) ≡ None
   pub reduced : length (live_of volume) < volume.in_use.boundaries
 
--- What was kept behind a save: the bytes of the members that were good then, and what stood beside the state before it.
+-- What was kept behind a save: the bytes of the members that were good then, and what stood beside the state before it. The boundaries in use are
+-- those behind the save.
 pub record KeepsSaved {S R : Type 0} (phase : phases.Ghosts S) (rack : Ghosts R) (room : R → Option ℕ) (goes : R → R → Type 0) (old new : Volume S R) : Type 0 where
   pub mid : Volume S R
   pub answer : CommitAnswer
   pub saved : LeavesBy phase phase rack IsCallOrExtendBelow old mid
   pub commits : CommitsArray rack room goes (extra_bytes (extra_of old)) answer mid.store new.store
+  pub live : live_of new ≡ live_of mid
 
 -- By the answer. Where the save itself left no good member, nothing was kept anew.
 abbrev pub KeepsBy : {S R : Type 0} → phases.Ghosts S → Ghosts R → (R → Option ℕ) → (R → R → Type 0) → Volume S R → Volume S R → CheckpointAnswer → Type 0

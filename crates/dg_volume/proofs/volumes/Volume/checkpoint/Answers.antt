@@ -1,4 +1,4 @@
-use Rattle.std.proofs.Common.{◌∙◌, ℕ, List, ap, inr, subst, sym}
+use Rattle.std.proofs.Common.{◌∙◌, ℕ, List, ap, inr, refl, subst, sym}
 use Rattle.dg_label.specs.declared.saves.SaveAnswer.{SaveAnswer}
 use Rattle.dg_model.specs.declared.events.Event.TheVariants.{Save}
 use Rattle.dg_model.specs.declared.replies.Reply.TheVariants.{Lost}
@@ -47,6 +47,7 @@ returns-then-has_good-clause-kept g c =
         saved = c.save.ensures.leaves;
         commits =
             subst (λ (bytes : List ℕ). CommitsArray g.R.Rack g.R.Checkpoint.room_of g.R.Checkpoint.commits bytes c.commit_good.result m.store c.commit_good.new.store) says c.commit_good.ensures;
+        live = refl;
       },
       c.has_good.ensures.some c.if-has_good.true,
     )
@@ -77,6 +78,7 @@ returns-clause-kept g c =
         saved = c.save.ensures.leaves;
         commits =
             subst (λ (bytes : List ℕ). CommitsArray g.R.Rack g.R.Checkpoint.room_of g.R.Checkpoint.commits bytes c.commit_good.result m.store c.commit_good.new.store) says c.commit_good.ensures;
+        live = refl;
       },
       c.has_good.ensures.none c.if-has_good.false,
     )
