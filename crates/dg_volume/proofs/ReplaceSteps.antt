@@ -5,7 +5,7 @@ use Rattle.std.proofs.lemmas.Bool.{cases_eq, cases_lt, eq-eqb, false≢true, ne_
 use Rattle.std.proofs.lemmas.List.{length-replicate, take-replicate}
 use Rattle.dg_io.specs.Told.{IsZeros, Told, Torn}
 use Rattle.dg_io.specs.declared.outside.Rack.{Ghosts}
-use Rattle.dg_label.specs.Labels.{HasLength, HaveSameNumbers, IsLabeled, NotesLong, is_long}
+use Rattle.dg_label.specs.Labels.{HasLength, HaveSameNumbers, IsLabeled, is_long}
 use Rattle.dg_label.specs.LineLaws.{line_on, own_seal, place_is, room_fits, seal_on}
 use Rattle.dg_label.specs.Lines.{IsLineOf}
 use Rattle.dg_label.specs.declared.labels.KeptLabel.{KeptLabel}
@@ -47,6 +47,7 @@ use Rattle.dg_volume.proofs.LabelLaws.{
 use Rattle.dg_volume.proofs.VolumeLaws.{IsBeside, KeepsBy, Labels, kept_state, label_by, leaves, on_label, quiet_in, same_in, stays, steps_from, still_in}
 use Rattle.dg_volume.proofs.VolumeSteps.{false_of}
 use Rattle.dg_volume.specs.Faults.{OutsStay, TellsFaults, faults_of}
+use Rattle.dg_volume.specs.Refills.{NotesAnew, replace_reply, replaced_as}
 use Rattle.dg_volume.specs.Seals.{OpensWhere, Relabels}
 use Rattle.dg_volume.specs.Volumes.{HasLabel, IsWell, Known, LeavesBy, StandsFor, StandsIn, StandsUnder, StepsTo, line_of, marks_by, members_of, rack_of, shape_of, state_of, table_of}
 use Rattle.dg_volume.specs.declared.phases.InPhase as phases
@@ -109,8 +110,7 @@ module _ {S R : Type 0} (phase : phases.Ghosts S) (rack : Ghosts R) where
     pub labeled : HasLabel rack a
     pub mid : Option KeptLabel
     pub opening : OpensWhere rack writes a.store m a.label mid
-    pub noted : answer ≡ Replaced → NotesLong (2 * s + j) mid b.label
-    pub unnoted : answer ≢ Replaced → b.label ≡ mid
+    pub label : NotesAnew answer (2 * s + j) mid b.label
     pub out : writes ≡ true → members_of a (2 * s + j) ≡ Out
     pub live : writes ≡ true → is_lost (members_of a) s ≡ false
     pub other : writes ≡ false → (members_of a (2 * s + j) ≢ Out) ⊎ (is_lost (members_of a) s ≡ true)
@@ -251,20 +251,20 @@ module _ {S R : Type 0} (phase : phases.Ghosts S) (rack : Ghosts R) where
     -- the label differs in the bit of the member that was made anew, and in no more
     numbers_noted : HaveSameNumbers h.mid b.label
     numbers_noted = elim answer_is [
-      | inl is ↦ (h.noted is).numbers
-      | inr (inl is) ↦ unnoted_numbers (h.unnoted (not_failed is))
-      | inr (inr still) ↦ unnoted_numbers (h.unnoted (not_quiet still))
+      | inl is ↦ (h.label.noted is).numbers
+      | inr (inl is) ↦ unnoted_numbers (h.label.unnoted (not_failed is))
+      | inr (inr still) ↦ unnoted_numbers (h.label.unnoted (not_quiet still))
     ]
       where
         unnoted_numbers : b.label ≡ h.mid → HaveSameNumbers h.mid b.label
         unnoted_numbers same = subst (λ (k : Option KeptLabel). HaveSameNumbers h.mid k) (sym same) (same_numbers h.mid)
 
     unnoted_long : (q : ℕ) → answer ≢ Replaced → is_long b.label q ≡ is_long h.mid q
-    unnoted_long q other = ap (λ (k : Option KeptLabel). is_long k q) (h.unnoted other)
+    unnoted_long q other = ap (λ (k : Option KeptLabel). is_long k q) (h.label.unnoted other)
 
     long_apart : (q : ℕ) → q ≢ 2 * s + j → is_long b.label q ≡ is_long h.mid q
     long_apart q apart = elim answer_is [
-      | inl is ↦ (h.noted is).others q apart
+      | inl is ↦ (h.label.noted is).others q apart
       | inr (inl is) ↦ unnoted_long q (not_failed is)
       | inr (inr still) ↦ unnoted_long q (not_quiet still)
     ]
@@ -326,7 +326,7 @@ module _ {S R : Type 0} (phase : phases.Ghosts S) (rack : Ghosts R) where
       | inl at ↦ elim answer_is [
         | inl is ↦
             subst (λ (p : ℕ). LongEnough p) (sym at)
-            (subst (λ (long : Bool). SizedBy (rack.bytes (rack_of b) (2 * s + j)) long) (sym (h.noted is).here)
+            (subst (λ (long : Bool). SizedBy (rack.bytes (rack_of b) (2 * s + j)) long) (sym (h.label.noted is).here)
             (fills_anew (rack.bytes (stores.rack_of m) (2 * s + j)) (rack.bytes (rack_of b) (2 * s + j)) (h.blank is)))
         | inr rest ↦ elim rest [
           | inl is ↦ absurd (here (ap (members_of b) at ∙ same_failed is (2 * s + j) ∙ failed_out is))
@@ -512,7 +512,7 @@ module _ {S R : Type 0} (phase : phases.Ghosts S) (rack : Ghosts R) where
         → StandsIn phase rack P b (state_of phase rack b rest V)
     same_next none rest V label holds =
         quiet_in phase rack a b rest V label replace_keeps (quiet_where none ∙ ap (λ (x : Store R). stores.rack_of x) (h.opening.quiet none).0)
-        (h.unnoted (not_quiet (elim (found none) [ inl stood ↦ inr stood | inr lost ↦ inl lost ])) ∙ (h.opening.quiet none).1)
+        (h.label.unnoted (not_quiet (elim (found none) [ inl stood ↦ inr stood | inr lost ↦ inl lost ])) ∙ (h.opening.quiet none).1)
         (λ q out. same_members none q ∙ out) (λ q fills. ap is_filling (sym (same_members none q)) ∙ fills) holds
 
   pub replace_leaves : (a : Volume S R) (s j : ℕ) (answer : ReplaceAnswer) (writes : Bool) (m : Store R) (b : Volume S R) → IsWell phase rack a → HasReplaced a s j answer writes m b
@@ -557,7 +557,7 @@ module _ {S R : Type 0} (phase : phases.Ghosts S) (rack : Ghosts R) where
   opened_where x true stood lost found = refl
   opened_where x false stood lost found = absurd (elim (found refl) [ inl is ↦ stood is | inr is ↦ lost is ])
 
-  pub steps_replaced : (a : Volume S R) (s j : ℕ) (writes : Bool) (m : Store R) (b : Volume S R) → IsWell phase rack a → (h : HasReplaced a s j Replaced writes m b)
+  steps_replaced : (a : Volume S R) (s j : ℕ) (writes : Bool) (m : Store R) (b : Volume S R) → IsWell phase rack a → (h : HasReplaced a s j Replaced writes m b)
       → StepsTo phase phase rack a (Replace h.number j) Done b
   steps_replaced a s j writes m b well h =
       let opens = opened_where Replaced writes (λ e. cc e) (λ e. cc e) (found a s j Replaced writes m b h) in
@@ -614,11 +614,8 @@ module _ {S R : Type 0} (phase : phases.Ghosts S) (rack : Ghosts R) where
         refl,
       ))
 
-  pub steps_lost : (a : Volume S R) (s j : ℕ) (writes : Bool) (m : Store R) (b : Volume S R) → (h : HasReplaced a s j Lost writes m b) → StepsTo phase phase rack a (Replace h.number j) (LostReply h.number) b
-  steps_lost a s j writes m b h = steps_lost_by a s j writes m b writes refl h
-
   -- the member isn't out: nothing was done
-  pub steps_not_out : (a : Volume S R) (s j : ℕ) (writes : Bool) (m : Store R) (b : Volume S R) → (h : HasReplaced a s j NotOut writes m b) → StepsTo phase phase rack a (Replace h.number j) NotOutReply b
+  steps_not_out : (a : Volume S R) (s j : ℕ) (writes : Bool) (m : Store R) (b : Volume S R) → (h : HasReplaced a s j NotOut writes m b) → StepsTo phase phase rack a (Replace h.number j) NotOutReply b
   steps_not_out a s j writes m b h =
       let stood = h.not_out.0 refl in
       let none : writes ≡ false = false_of writes (λ opens. stood (mid_out a s j NotOut writes m b h (2 * s + j) (h.out opens))) in
@@ -634,7 +631,7 @@ module _ {S R : Type 0} (phase : phases.Ghosts S) (rack : Ghosts R) where
         refl,
       ))
 
-  pub steps_failed : (a : Volume S R) (s j : ℕ) (writes : Bool) (m : Store R) (b : Volume S R) → (h : HasReplaced a s j Failed writes m b) → StepsTo phase phase rack a (Replace h.number j) FailedReply b
+  steps_failed : (a : Volume S R) (s j : ℕ) (writes : Bool) (m : Store R) (b : Volume S R) → (h : HasReplaced a s j Failed writes m b) → StepsTo phase phase rack a (Replace h.number j) FailedReply b
   steps_failed a s j writes m b h =
       let opens = opened_where Failed writes (λ e. cc e) (λ e. cc e) (found a s j Failed writes m b h) in
       steps_from phase rack a b (Replace h.number j) FailedReply (λ origin rest V label holds. (
@@ -656,6 +653,13 @@ module _ {S R : Type 0} (phase : phases.Ghosts S) (rack : Ghosts R) where
         ),
         refl,
       ))
+
+  pub replace_steps : (a : Volume S R) (s j : ℕ) (answer : ReplaceAnswer) (writes : Bool) (m : Store R) (b : Volume S R) → IsWell phase rack a → (h : HasReplaced a s j answer writes m b)
+      → StepsTo phase phase rack a (Replace h.number j) (replace_reply h.number (replaced_as answer)) b
+  replace_steps a s j Replaced writes m b well h = steps_replaced a s j writes m b well h
+  replace_steps a s j Lost writes m b well h = steps_lost_by a s j writes m b writes refl h
+  replace_steps a s j NotOut writes m b well h = steps_not_out a s j writes m b h
+  replace_steps a s j Failed writes m b well h = steps_failed a s j writes m b h
 
   -- the boundary isn't in use
   pub steps_unused : (a : Volume S R) (t j : ℕ) → IsWell phase rack a → IsUnused a t → j < 2 → StepsTo phase phase rack a (Replace t j) (LostReply t) a

@@ -23,6 +23,8 @@ use Rattle.dg_store.specs.Leaves.{CallsAtMost, CallsBelow, NoFault}
 use Rattle.dg_store.specs.Stores.{HasBlock, IsSound, KeepsBlocks}
 use Rattle.dg_store.specs.ReadLaws.{own_none, rack_none, reads_none, tells_good}
 use Rattle.dg_store.specs.Stores as stores
+use Rattle.dg_store.specs.Views.{ReadsOn}
+use Rattle.dg_store.specs.declared.store.Store.{Store}
 use Rattle.dg_volume.proofs.FaultLaws.{tells_same}
 use Rattle.dg_volume.proofs.LabelLaws.{none_opens, quiet_opens, relabels_none, relabels_quiet}
 use Rattle.dg_volume.proofs.UseLaws.{HasPlace, IsUnused, own_member, unused_out}
@@ -69,17 +71,21 @@ struck_fills q old new struck p fills = elim (cases_eq p q) [
 module _ {S R : Type 0} (phase : phases.Ghosts S) (rack : Ghosts R) where
   -- ---- reads
 
-  -- no call was made
-  pub read_none : (a : Volume S R) → IsWell phase rack a → HasRead phase rack a a
-  read_none a well = record {
+  -- what a call that reads the array leaves
+  pub read_by : (a : Volume S R) (store : Store R) → IsWell phase rack a → IsSound rack store → ReadsOn rack a.store store → KeepsBlocks rack a.store store → HasRead phase rack a (record a { store = store })
+  read_by a store well sound reads stands = record {
     beside = record { phase_is = refl; pending = refl; homes = refl; copies = refl; in_use = refl };
     levels = refl;
-    sound = well.array;
-    reads = reads_none rack a.store;
-    stands = λ V stands. stands;
+    sound = sound;
+    reads = reads;
+    stands = stands;
     labeled = well.labeled;
     label_is = refl;
   }
+
+  -- no call was made
+  pub read_none : (a : Volume S R) → IsWell phase rack a → HasRead phase rack a a
+  read_none a well = read_by a a.store well well.array (reads_none rack a.store) (λ V stands. stands)
 
   pub record HasReadBlock (a : Volume S R) (block : ℕ) (b : Volume S R) : Type 0 where
     pub within : block < (shape_of a).n
@@ -156,6 +162,24 @@ module _ {S R : Type 0} (phase : phases.Ghosts S) (rack : Ghosts R) where
     pub table : table_of b ≡ table_of a
     pub struck : IsStruck (2 * s + j) (members_of a) (members_of b)
     pub stands : KeepsBlocks rack a.store b.store
+
+  -- by what the array's call left
+  abbrev pub failed_by : (a : Volume S R) (t s j : ℕ) (store : Store R) → IsWell phase rack a → HasPlace a t s → j < 2 → (IsSound rack a.store → IsSound rack store) → stores.rack_of store ≡ rack_of a
+      → stores.table_of store ≡ table_of a → IsStruck (2 * s + j) (members_of a) (stores.members_of store) → KeepsBlocks rack a.store store → HasFailed a s j (record a { store = store })
+  failed_by a t s j store well place side sound same table struck stands = record {
+    number = t;
+    place = place;
+    side = side;
+    beside = record { phase_is = refl; pending = refl; homes = refl; copies = refl; in_use = refl };
+    levels = refl;
+    sound = sound well.array;
+    rack_is = same;
+    label_is = refl;
+    labeled = well.labeled;
+    table = table;
+    struck = struck;
+    stands = stands;
+  }
 
   is_member : (a : Volume S R) (rest : State) (V : List (List ℕ)) (s j : ℕ) (b : Volume S R) → (h : HasFailed a s j b) → IsMember (state_of phase rack a rest V) h.number j
   is_member a rest V s j b h = record { boundary = h.place.number; side = h.side }

@@ -1,10 +1,11 @@
 -- The replies that the answers of replacements and refills stand for, and what is reaped.
-use Rattle.std.specs.Prelude.{◌≡◌, ◌⊎◌, ℕ, Bool, true, false, List, length, None, Option, Result, Ok, Err, IfSome, IsSome}
+use Rattle.std.specs.Prelude.{◌≡◌, ◌≢◌, ◌⊎◌, ℕ, Bool, true, false, List, length, None, Option, Result, Ok, Err, IfSome, IsSome}
 use Rattle.std.specs.Bool.{Decides}
 use Rattle.dg_infer.specs.Meanings.{KeptInference}
 use Rattle.dg_infer.specs.Meanings as inferences
 use Rattle.dg_infer.specs.Wants.{IsWantBy}
 use Rattle.dg_io.specs.declared.outside.Rack.{Ghosts}
+use Rattle.dg_label.specs.Labels.{NotesLong}
 use Rattle.dg_label.specs.Seals.{KeepsArray}
 use Rattle.dg_label.specs.declared.labels.KeptLabel.{KeptLabel}
 use Rattle.dg_model.specs.Blocks.{block_in, zeros}
@@ -19,6 +20,8 @@ use Rattle.dg_model.specs.declared.phases.Phase.TheVariants.{Worn}
 use Rattle.dg_model.specs.declared.replies.Reply.{Reply}
 use Rattle.dg_model.specs.declared.replies.Reply.TheVariants.{Copied as CopiedReply, Done, Failed as FailedReply, Lost as LostReply, NotFilling as NotFillingReply, NotOut as NotOutReply, Range as RangeReply}
 use Rattle.dg_model.specs.declared.wants.Want.TheVariants.{Stray}
+use Rattle.dg_pair.specs.declared.boundaries.ReplaceAnswer as members
+use Rattle.dg_pair.specs.declared.boundaries.ReplaceAnswer.TheVariants.{Failed as MemberFailed, Lost as MemberLost, NotOut as MemberNotOut, Replaced as MemberReplaced}
 use Rattle.dg_rebuild.specs.Answers.{HasNoFilling}
 use Rattle.dg_rebuild.specs.declared.rebuilds.RebuildAnswer as refilled
 use Rattle.dg_rebuild.specs.declared.rebuilds.RebuildAnswer.TheVariants.{Copied as RefilledCopied, Failed as RefilledFailed, Lost as RefilledLost, NotFilling as RefilledNotFilling}
@@ -47,6 +50,13 @@ replace_reply s Lost = LostReply s
 replace_reply s NotOut = NotOutReply
 replace_reply s Failed = FailedReply
 
+-- what is told of a member that was to be made anew
+abbrev pub replaced_as : members.ReplaceAnswer → ReplaceAnswer
+replaced_as MemberReplaced = Replaced
+replaced_as MemberLost = Lost
+replaced_as MemberNotOut = NotOut
+replaced_as MemberFailed = Failed
+
 abbrev pub rebuild_reply : RebuildAnswer → Reply
 rebuild_reply (Copied d l) = CopiedReply d l
 rebuild_reply RebuildRange = RangeReply
@@ -71,6 +81,11 @@ told_of number (Ok RefilledFailed) = Ok RebuildFailed
 told_of number (Err e) = Err e
 
 -- ---- members
+
+-- the length of a member was noted, where it was made anew
+pub record NotesAnew (answer : members.ReplaceAnswer) (member : ℕ) (before after : Option KeptLabel) : Type 0 where
+  pub noted : answer ≡ MemberReplaced → NotesLong member before after
+  pub unnoted : answer ≢ MemberReplaced → after ≡ before
 
 -- some member of boundary s is refilled
 pub record HasFilling (members : ℕ → MemberState) (s : ℕ) : Type 0 where

@@ -8,7 +8,7 @@ ghost use Rattle.dg_model.specs.declared.shapes.Shape.{Shape};
 ghost use Rattle.dg_rebuild.specs.Answers.{HasNoFilling};
 ghost use Rattle.dg_store.specs.Stores.{IsSound, members_of, table_of};
 ghost use Rattle.dg_store.specs.Stores as stores;
-ghost use Rattle.dg_volume.specs.Refills.{AreDeadMarks, AreReapMarks, HasFilling, IsDeadMark, OpensRefill, SparesFiles, rebuild_reply, rebuilt_at, replace_reply, told_of};
+ghost use Rattle.dg_volume.specs.Refills.{AreDeadMarks, AreReapMarks, HasFilling, IsDeadMark, NotesAnew, OpensRefill, SparesFiles, rebuild_reply, rebuilt_at, replace_reply, replaced_as, told_of};
 ghost use Rattle.dg_store.specs.Leaves.{IsCallOrBlankBelow};
 ghost use Rattle.dg_volume.specs.Volumes.{FitsArray, IsWell, Leaves, LeavesBy, given_of, StepsSized, StepsTo};
 
@@ -156,6 +156,28 @@ fn can_replace<R: Rack>(store: &Store<R>, boundary: u8, side: u8) -> bool
     }
 }
 
+/// Notes the length of a member, where it was made anew.
+fn note_anew(label: &mut Option<KeptLabel>, member: u8, answer: MemberAnswer)
+    requires { member < 32 }
+    ensures { NotesAnew answer member label.old label.new }
+{
+    if let MemberAnswer::Replaced = answer {
+        note_long(label, member);
+    }
+}
+
+/// What is told of a member that was to be made anew.
+fn answered(answer: MemberAnswer) -> ReplaceAnswer
+    ensures { result ≡ replaced_as answer }
+{
+    match answer {
+        MemberAnswer::Replaced => ReplaceAnswer::Replaced,
+        MemberAnswer::Lost => ReplaceAnswer::Lost,
+        MemberAnswer::NotOut => ReplaceAnswer::NotOut,
+        MemberAnswer::Failed => ReplaceAnswer::Failed,
+    }
+}
+
 /// Whether a member of a boundary is refilled.
 fn is_filling<R: Rack>(store: &Store<R>, boundary: u8) -> bool
     requires sound { IsSound R.Rack store.now }
@@ -227,15 +249,9 @@ impl<S: InPhase, R: Rack> Volume<S, R> {
         open_where(&mut self.store, &mut self.label, opens);
         let line = self.in_use.line(self.store.shape());
         let size = member_length(&line);
-        match self.store.replace(place, side as u8, size) {
-            MemberAnswer::Replaced => {
-                note_long(&mut self.label, 2 * place + side as u8);
-                ReplaceAnswer::Replaced
-            }
-            MemberAnswer::Lost => ReplaceAnswer::Lost,
-            MemberAnswer::NotOut => ReplaceAnswer::NotOut,
-            MemberAnswer::Failed => ReplaceAnswer::Failed,
-        }
+        let answer = self.store.replace(place, side as u8, size);
+        note_anew(&mut self.label, 2 * place + side as u8, answer);
+        answered(answer)
     }
 
     /// Refills the member of a boundary, given by its number in the first line, that was replaced, with at most `limit` copies of slots. Dead

@@ -1,9 +1,9 @@
-use Rattle.std.proofs.Common.{◌≡◌, ◌∙◌, ◌<◌, refl, ap, sym, subst, arith}
+use Rattle.std.proofs.Common.{◌≡◌, ◌∙◌, refl, ap, sym, subst, arith}
 use Rattle.dg_model.specs.declared.events.Event.TheVariants.{Read}
 use Rattle.dg_model.specs.declared.replies.Reply.{Reply}
 use Rattle.dg_model.specs.declared.shapes.Shape.{Shape}
 use Rattle.dg_volume.proofs.VolumeLaws.{reads_leave}
-use Rattle.dg_volume.proofs.VolumeSteps.{false_of, steps_cut, steps_data, steps_gone}
+use Rattle.dg_volume.proofs.VolumeSteps.{false_of, read_by, steps_cut, steps_data, steps_gone}
 use Rattle.dg_volume.proofs.VolumeLaws.{leaves_none}
 use Rattle.dg_volume.specs.Volumes.{StepsTo, shape_of}
 use Rattle.dg_volume.proofs.volumes.Volume.read.Goals as goal
@@ -12,15 +12,13 @@ pub returns-in-Got-clause-leaves : goal.returns-in-Got-clause-leaves
 returns-in-Got-clause-leaves g c =
     let a = c.args.self.now in
     let k = c.in-Got.ensures in
-    reads_leave g.S.InPhase g.R.Rack a (record a { store = c.read.new.self }) c.requires.well
-    (record { beside = record { phase_is = refl; pending = refl; homes = refl; copies = refl; in_use = refl }; levels = refl; sound = k.sound; reads = k.reads; stands = k.stands; labeled = c.requires.well.labeled; label_is = refl })
+    reads_leave g.S.InPhase g.R.Rack a (record a { store = c.read.new.self }) c.requires.well (read_by g.S.InPhase g.R.Rack a c.read.new.self c.requires.well k.sound k.reads k.stands)
 
 pub returns-in-Gone-clause-leaves : goal.returns-in-Gone-clause-leaves
 returns-in-Gone-clause-leaves g c =
     let a = c.args.self.now in
     let k = c.in-Gone.ensures in
-    reads_leave g.S.InPhase g.R.Rack a (record a { store = c.read.new.self }) c.requires.well
-    (record { beside = record { phase_is = refl; pending = refl; homes = refl; copies = refl; in_use = refl }; levels = refl; sound = k.sound; reads = k.reads; stands = k.stands; labeled = c.requires.well.labeled; label_is = refl })
+    reads_leave g.S.InPhase g.R.Rack a (record a { store = c.read.new.self }) c.requires.well (read_by g.S.InPhase g.R.Rack a c.read.new.self c.requires.well k.sound k.reads k.stands)
 
 pub returns-in-Got-clause-steps : goal.returns-in-Got-clause-steps
 returns-in-Got-clause-steps g c reply is =
@@ -28,15 +26,9 @@ returns-in-Got-clause-steps g c reply is =
     let b = record a { store = c.read.new.self } in
     let k = c.in-Got.ensures in
     let n : c.shape.result.now.n ≡ (shape_of a).n = ap (λ (x : Shape). x.n) c.shape.ensures in
-    let within : c.args.block < (shape_of a).n = omega arith in
     subst (λ (r : Reply). StepsTo g.S.InPhase g.S.InPhase g.R.Rack a (Read c.args.block) r b) (sym is.2)
     (steps_data g.S.InPhase g.R.Rack a c.args.block is.0 c.read.new.buf b
-    (record {
-      within = within;
-      read = record { beside = record { phase_is = refl; pending = refl; homes = refl; copies = refl; in_use = refl }; levels = refl; sound = k.sound; reads = k.reads; stands = k.stands; labeled = c.requires.well.labeled; label_is = refl };
-      most = k.most;
-      once = k.once;
-    })
+    (record { within = omega arith; read = read_by g.S.InPhase g.R.Rack a c.read.new.self c.requires.well k.sound k.reads k.stands; most = k.most; once = k.once })
     (false_of _ (λ gone. cc (k.gone.1 gone))) (sym c.is_cut.ensures ∙ c.if-is_cut.false) is.1 (λ tells. k.got refl tells) (λ none. k.zeros none))
 
 pub returns-in-Gone-clause-steps : goal.returns-in-Gone-clause-steps
@@ -45,15 +37,9 @@ returns-in-Gone-clause-steps g c reply is =
     let b = record a { store = c.read.new.self } in
     let k = c.in-Gone.ensures in
     let n : c.shape.result.now.n ≡ (shape_of a).n = ap (λ (x : Shape). x.n) c.shape.ensures in
-    let within : c.args.block < (shape_of a).n = omega arith in
     subst (λ (r : Reply). StepsTo g.S.InPhase g.S.InPhase g.R.Rack a (Read c.args.block) r b) (sym is)
     (steps_gone g.S.InPhase g.R.Rack a c.args.block b
-    (record {
-      within = within;
-      read = record { beside = record { phase_is = refl; pending = refl; homes = refl; copies = refl; in_use = refl }; levels = refl; sound = k.sound; reads = k.reads; stands = k.stands; labeled = c.requires.well.labeled; label_is = refl };
-      most = k.most;
-      once = k.once;
-    })
+    (record { within = omega arith; read = read_by g.S.InPhase g.R.Rack a c.read.new.self c.requires.well k.sound k.reads k.stands; most = k.most; once = k.once })
     (k.gone.0 refl))
 
 pub returns-then-block-shape-clause-leaves : goal.returns-then-block-shape-clause-leaves

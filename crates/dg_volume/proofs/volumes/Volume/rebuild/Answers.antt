@@ -1,6 +1,6 @@
 use Rattle.std.proofs.Common.{◌<◌, ℕ, Bool, List, inl, inr, refl, sym, subst, arith}
 use Rattle.std.specs.Prelude.{IfSome}
-use Rattle.dg_volume.proofs.RebuildSteps.{CallsRebuild, opened_leaves, opened_spares, quiet_rack, rebuild_leaves, rebuild_spares, rebuild_steps, rebuilt_labels, steps_ended, steps_unused}
+use Rattle.dg_volume.proofs.RebuildSteps.{CallsRebuild, HasRebuilt, opened_by, opened_leaves, opened_spares, quiet_rack, rebuild_leaves, rebuild_spares, rebuild_steps, rebuilt_labels, steps_ended, steps_unused}
 use Rattle.dg_volume.specs.Phases.{CanReapAll}
 use Rattle.dg_volume.specs.Refills.{AreReapMarks}
 use Rattle.dg_volume.proofs.VolumeLaws.{leaves_none}
@@ -8,13 +8,18 @@ use Rattle.dg_volume.proofs.volumes.Volume.rebuild.Goals as goal
 use Rattle.dg_model.specs.declared.shapes.Shape.{Shape}
 use Rattle.dg_volume.specs.Volumes.{FitsArray, line_of}
 
-pub returns-clause-leaves : goal.returns-clause-leaves
-returns-clause-leaves g c =
+pub returns : goal.returns
+returns g c =
     let a = c.args.self.now in
+    let m = c.open_refill-ended.new.store in
+    let marks = c.deref.result.now in
+    let before = c.new-reaped.result.items in
+    let after = c.rebuild-refilled.new.reaped.items in
+    let result = c.rebuild-refilled.result in
+    let b = record a { store = c.rebuild-refilled.new.store; label = c.open_refill-ended.new.label; phase = c.reaped.new.self } in
     let o = c.open_refill-ended.ensures (line_of a) in
     let k = c.rebuild-refilled.ensures in
-    let call : CallsRebuild g.S.InPhase g.R.Rack c.open_refill-ended.new.store c.in-Some.place c.args.limit c.deref.result.now c.new-reaped.result.items c.rebuild-refilled.new.reaped.items
-    c.rebuild-refilled.result c.rebuild-refilled.new.store = record {
+    let call : CallsRebuild g.S.InPhase g.R.Rack m c.in-Some.place c.args.limit marks before after result c.rebuild-refilled.new.store = record {
       sound = k.sound;
       left = k.stays;
       lost = k.lost;
@@ -26,9 +31,7 @@ returns-clause-leaves g c =
       broken = k.broken;
       err = k.err;
     } in
-    rebuild_leaves g.S.InPhase g.R.Rack a c.open_refill-ended.new.store c.in-Some.place c.args.limit c.deref.result.now c.new-reaped.result.items c.rebuild-refilled.new.reaped.items c.rebuild-refilled.result
-    (record a { store = c.rebuild-refilled.new.store; label = c.open_refill-ended.new.label; phase = c.reaped.new.self }) c.requires.well
-    (record {
+    let h : HasRebuilt g.S.InPhase g.R.Rack a m c.in-Some.place c.args.limit marks before after result b = record {
       number = c.args.boundary;
       place = record { number = omega arith; is = c.in-Some.ensures.some; within = omega (arith, c.in-Some.ensures.within, c.requires.well.in_use.number) };
       beside = record { phase_is = c.reaped.ensures.same; pending = refl; homes = refl; copies = refl; in_use = refl };
@@ -36,143 +39,58 @@ returns-clause-leaves g c =
       none = c.new-reaped.ensures.items;
       opening = o.array;
       same = λ none. o.same c.in_default-ended.is none;
-      labels = rebuilt_labels g.S.InPhase g.R.Rack a c.open_refill-ended.new.store c.in-Some.place c.args.limit c.deref.result.now c.new-reaped.result.items c.rebuild-refilled.new.reaped.items
-          c.rebuild-refilled.result c.rebuild-refilled.new.store c.open_refill-ended.new.label o.array call o.labels
+      labels = rebuilt_labels g.S.InPhase g.R.Rack a m c.in-Some.place c.args.limit marks before after result c.rebuild-refilled.new.store c.open_refill-ended.new.label o.array call o.labels
           (λ closed. elim (o.quiet closed) [
             | inl zero ↦ k.still zero
-            | inr none ↦ quiet_rack g.S.InPhase g.R.Rack c.open_refill-ended.new.store c.in-Some.place c.args.limit c.deref.result.now c.new-reaped.result.items
-                c.rebuild-refilled.new.reaped.items c.rebuild-refilled.result c.rebuild-refilled.new.store call none
+            | inr none ↦ quiet_rack g.S.InPhase g.R.Rack m c.in-Some.place c.args.limit marks before after result c.rebuild-refilled.new.store call none
           ]);
       can = subst (λ (xs : List ℕ). IfSome (g.S.InPhase.kept a.phase) (λ inference. CanReapAll inference xs)) c.deref-2.ensures.value c.reaped.ensures.stands;
-      marks_are = subst (λ (xs : List Bool). AreReapMarks c.open_refill-ended.new.store (g.S.InPhase.phase a.phase) (g.S.InPhase.kept a.phase) xs) (sym c.deref.ensures.value) c.in_ok-dead.ensures;
+      marks_are = subst (λ (xs : List Bool). AreReapMarks m (g.S.InPhase.phase a.phase) (g.S.InPhase.kept a.phase) xs) (sym c.deref.ensures.value) c.in_ok-dead.ensures;
       call = call;
-    })
-
-pub returns-clause-steps : goal.returns-clause-steps
-returns-clause-steps g c =
-    let a = c.args.self.now in
-    let o = c.open_refill-ended.ensures (line_of a) in
-    let k = c.rebuild-refilled.ensures in
-    let call : CallsRebuild g.S.InPhase g.R.Rack c.open_refill-ended.new.store c.in-Some.place c.args.limit c.deref.result.now c.new-reaped.result.items c.rebuild-refilled.new.reaped.items
-    c.rebuild-refilled.result c.rebuild-refilled.new.store = record {
-      sound = k.sound;
-      left = k.stays;
-      lost = k.lost;
-      other = k.other;
-      not_filling = k.not_filling;
-      quiet = k.quiet;
-      copied = k.copied;
-      failed = k.failed;
-      broken = k.broken;
-      err = k.err;
     } in
-    rw c.told.ensures
-    (rebuild_steps g.S.InPhase g.R.Rack a c.open_refill-ended.new.store c.in-Some.place c.args.limit c.deref.result.now c.new-reaped.result.items c.rebuild-refilled.new.reaped.items c.rebuild-refilled.result
-    (record a { store = c.rebuild-refilled.new.store; label = c.open_refill-ended.new.label; phase = c.reaped.new.self }) c.requires.well
-    (record {
-      number = c.args.boundary;
-      place = record { number = omega arith; is = c.in-Some.ensures.some; within = omega (arith, c.in-Some.ensures.within, c.requires.well.in_use.number) };
-      beside = record { phase_is = c.reaped.ensures.same; pending = refl; homes = refl; copies = refl; in_use = refl };
-      levels = refl;
-      none = c.new-reaped.ensures.items;
-      opening = o.array;
-      same = λ none. o.same c.in_default-ended.is none;
-      labels = rebuilt_labels g.S.InPhase g.R.Rack a c.open_refill-ended.new.store c.in-Some.place c.args.limit c.deref.result.now c.new-reaped.result.items c.rebuild-refilled.new.reaped.items
-          c.rebuild-refilled.result c.rebuild-refilled.new.store c.open_refill-ended.new.label o.array call o.labels
-          (λ closed. elim (o.quiet closed) [
-            | inl zero ↦ k.still zero
-            | inr none ↦ quiet_rack g.S.InPhase g.R.Rack c.open_refill-ended.new.store c.in-Some.place c.args.limit c.deref.result.now c.new-reaped.result.items
-                c.rebuild-refilled.new.reaped.items c.rebuild-refilled.result c.rebuild-refilled.new.store call none
-          ]);
-      can = subst (λ (xs : List ℕ). IfSome (g.S.InPhase.kept a.phase) (λ inference. CanReapAll inference xs)) c.deref-2.ensures.value c.reaped.ensures.stands;
-      marks_are = subst (λ (xs : List Bool). AreReapMarks c.open_refill-ended.new.store (g.S.InPhase.phase a.phase) (g.S.InPhase.kept a.phase) xs) (sym c.deref.ensures.value) c.in_ok-dead.ensures;
-      call = call;
-    }))
+    record {
+      leaves = rebuild_leaves g.S.InPhase g.R.Rack a m c.in-Some.place c.args.limit marks before after result b c.requires.well h;
+      steps = rw c.told.ensures (rebuild_steps g.S.InPhase g.R.Rack a m c.in-Some.place c.args.limit marks before after result b c.requires.well h);
+      spares = rebuild_spares g.S.InPhase g.R.Rack c.change_of_loose_blocks.ensures a m c.in-Some.place c.args.limit marks before after result b c.requires.well h;
+      given = refl;
+    }
 
-pub returns-clause-spares : goal.returns-clause-spares
-returns-clause-spares g c =
+pub returns-in-Some-ended : goal.returns-in-Some-ended
+returns-in-Some-ended g c =
     let a = c.args.self.now in
-    let o = c.open_refill-ended.ensures (line_of a) in
-    let k = c.rebuild-refilled.ensures in
-    let call : CallsRebuild g.S.InPhase g.R.Rack c.open_refill-ended.new.store c.in-Some.place c.args.limit c.deref.result.now c.new-reaped.result.items c.rebuild-refilled.new.reaped.items
-    c.rebuild-refilled.result c.rebuild-refilled.new.store = record {
-      sound = k.sound;
-      left = k.stays;
-      lost = k.lost;
-      other = k.other;
-      not_filling = k.not_filling;
-      quiet = k.quiet;
-      copied = k.copied;
-      failed = k.failed;
-      broken = k.broken;
-      err = k.err;
-    } in
-    rebuild_spares g.S.InPhase g.R.Rack c.change_of_loose_blocks.ensures a c.open_refill-ended.new.store c.in-Some.place c.args.limit c.deref.result.now c.new-reaped.result.items c.rebuild-refilled.new.reaped.items c.rebuild-refilled.result
-    (record a { store = c.rebuild-refilled.new.store; label = c.open_refill-ended.new.label; phase = c.reaped.new.self }) c.requires.well
-    (record {
-      number = c.args.boundary;
-      place = record { number = omega arith; is = c.in-Some.ensures.some; within = omega (arith, c.in-Some.ensures.within, c.requires.well.in_use.number) };
-      beside = record { phase_is = c.reaped.ensures.same; pending = refl; homes = refl; copies = refl; in_use = refl };
-      levels = refl;
-      none = c.new-reaped.ensures.items;
-      opening = o.array;
-      same = λ none. o.same c.in_default-ended.is none;
-      labels = rebuilt_labels g.S.InPhase g.R.Rack a c.open_refill-ended.new.store c.in-Some.place c.args.limit c.deref.result.now c.new-reaped.result.items c.rebuild-refilled.new.reaped.items
-          c.rebuild-refilled.result c.rebuild-refilled.new.store c.open_refill-ended.new.label o.array call o.labels
-          (λ closed. elim (o.quiet closed) [
-            | inl zero ↦ k.still zero
-            | inr none ↦ quiet_rack g.S.InPhase g.R.Rack c.open_refill-ended.new.store c.in-Some.place c.args.limit c.deref.result.now c.new-reaped.result.items
-                c.rebuild-refilled.new.reaped.items c.rebuild-refilled.result c.rebuild-refilled.new.store call none
-          ]);
-      can = subst (λ (xs : List ℕ). IfSome (g.S.InPhase.kept a.phase) (λ inference. CanReapAll inference xs)) c.deref-2.ensures.value c.reaped.ensures.stands;
-      marks_are = subst (λ (xs : List Bool). AreReapMarks c.open_refill-ended.new.store (g.S.InPhase.phase a.phase) (g.S.InPhase.kept a.phase) xs) (sym c.deref.ensures.value) c.in_ok-dead.ensures;
-      call = call;
-    })
-
-pub returns-in-Some-ended-clause-leaves : goal.returns-in-Some-ended-clause-leaves
-returns-in-Some-ended-clause-leaves g c =
-    let a = c.args.self.now in
-    let o = c.open_refill-ended.ensures (line_of a) in
-    opened_leaves g.S.InPhase g.R.Rack a (record a { store = c.open_refill-ended.new.store; label = c.open_refill-ended.new.label }) c.requires.well
-    (record { labeled = c.requires.well.labeled; beside = record { phase_is = refl; pending = refl; homes = refl; copies = refl; in_use = refl }; levels = refl; opening = o.array; labels = o.labels })
-
-pub returns-in-Some-ended-clause-spares : goal.returns-in-Some-ended-clause-spares
-returns-in-Some-ended-clause-spares g c =
-    let a = c.args.self.now in
-    let o = c.open_refill-ended.ensures (line_of a) in
-    opened_spares g.S.InPhase g.R.Rack c.change_of_loose_blocks.ensures a (record a { store = c.open_refill-ended.new.store; label = c.open_refill-ended.new.label })
-    (record { labeled = c.requires.well.labeled; beside = record { phase_is = refl; pending = refl; homes = refl; copies = refl; in_use = refl }; levels = refl; opening = o.array; labels = o.labels })
-
-pub returns-in-Some-ended-clause-steps : goal.returns-in-Some-ended-clause-steps
-returns-in-Some-ended-clause-steps g c =
-    let a = c.args.self.now in
+    let b = record a { store = c.open_refill-ended.new.store; label = c.open_refill-ended.new.label } in
     let e = c.in-Some-ended.ensures (line_of a) in
     let o = c.open_refill-ended.ensures (line_of a) in
-    rw c.rebuilt.ensures
-    (steps_ended g.S.InPhase g.R.Rack a (record a { store = c.open_refill-ended.new.store; label = c.open_refill-ended.new.label }) c.in-Some.place c.args.limit c.in-Some-ended.answer
-    (record {
-      number = c.args.boundary;
-      place = record { number = omega arith; is = c.in-Some.ensures.some; within = omega (arith, c.in-Some.ensures.within, c.requires.well.in_use.number) };
-      sound = c.requires.well.array;
-      was = e.was;
-      none = e.none;
-      opened = record { labeled = c.requires.well.labeled; beside = record { phase_is = refl; pending = refl; homes = refl; copies = refl; in_use = refl }; levels = refl; opening = o.array; labels = o.labels };
-    })
-    e.lost e.fell)
+    let opened = opened_by g.S.InPhase g.R.Rack a c.open_refill-ended.new.store c.open_refill-ended.new.label c.requires.well o.array o.labels in
+    record {
+      leaves = opened_leaves g.S.InPhase g.R.Rack a b c.requires.well opened;
+      steps =
+          rw c.rebuilt.ensures
+          (steps_ended g.S.InPhase g.R.Rack a b c.in-Some.place c.args.limit c.in-Some-ended.answer
+          (record {
+            number = c.args.boundary;
+            place = record { number = omega arith; is = c.in-Some.ensures.some; within = omega (arith, c.in-Some.ensures.within, c.requires.well.in_use.number) };
+            sound = c.requires.well.array;
+            was = e.was;
+            none = e.none;
+            opened = opened;
+          })
+          e.lost e.fell);
+      spares = opened_spares g.S.InPhase g.R.Rack c.change_of_loose_blocks.ensures a b opened;
+      given = refl;
+    }
 
 pub returns-in_err-dead-clause-leaves : goal.returns-in_err-dead-clause-leaves
 returns-in_err-dead-clause-leaves g c =
     let a = c.args.self.now in
     let o = c.open_refill-ended.ensures (line_of a) in
-    opened_leaves g.S.InPhase g.R.Rack a (record a { store = c.open_refill-ended.new.store; label = c.open_refill-ended.new.label }) c.requires.well
-    (record { labeled = c.requires.well.labeled; beside = record { phase_is = refl; pending = refl; homes = refl; copies = refl; in_use = refl }; levels = refl; opening = o.array; labels = o.labels })
+    opened_leaves g.S.InPhase g.R.Rack a _ c.requires.well (opened_by g.S.InPhase g.R.Rack a c.open_refill-ended.new.store c.open_refill-ended.new.label c.requires.well o.array o.labels)
 
 pub returns-in_err-dead-clause-spares : goal.returns-in_err-dead-clause-spares
 returns-in_err-dead-clause-spares g c =
     let a = c.args.self.now in
     let o = c.open_refill-ended.ensures (line_of a) in
-    opened_spares g.S.InPhase g.R.Rack c.change_of_loose_blocks.ensures a (record a { store = c.open_refill-ended.new.store; label = c.open_refill-ended.new.label })
-    (record { labeled = c.requires.well.labeled; beside = record { phase_is = refl; pending = refl; homes = refl; copies = refl; in_use = refl }; levels = refl; opening = o.array; labels = o.labels })
+    opened_spares g.S.InPhase g.R.Rack c.change_of_loose_blocks.ensures a _ (opened_by g.S.InPhase g.R.Rack a c.open_refill-ended.new.store c.open_refill-ended.new.label c.requires.well o.array o.labels)
 
 pub returns-then-boundary-self-clause-leaves : goal.returns-then-boundary-self-clause-leaves
 returns-then-boundary-self-clause-leaves g c = leaves_none g.S.InPhase g.R.Rack c.args.self.now c.requires.well
