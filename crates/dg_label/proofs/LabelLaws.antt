@@ -185,7 +185,7 @@ module _ {R : Type 0} (rack : Ghosts R) where
   -- ---- members that are refilled
 
   -- where a label would be, each of them has zeros
-  abbrev FillingFresh : Store R → Type 0
+  abbrev pub FillingFresh : Store R → Type 0
   FillingFresh store = (q : ℕ) → is_filling (members_of store q) ≡ true → IfSome (rack.bytes (rack_of store) q) (λ all. take 512 all ≡ zeros 512)
 
   filling_fresh : (line : Shape) (a : Store R) (label : Option KeptLabel) (last : Option LastLabel) → IsSound rack a → StandsLabeled rack line a label last → FillingFresh a
@@ -231,6 +231,11 @@ module _ {R : Type 0} (rack : Ghosts R) where
       weaker (λ all. length all ≡ member_length 2 line) (λ all. body_place (shape_of a) + size ≤ length all) (rack.bytes (rack_of a) q)
       (λ all long. omega (arith, long, room, place, less))
       (whole q (good_stands a q good))
+
+  -- on a store of the same shape
+  pub room_on : (line : Shape) (a b : Store R) (size : ℕ) → shape_of b ≡ shape_of a → IsLineOf line (shape_of a) → AreWhole rack line b → size ≤ room_of 2 (shape_of a) → HaveRoom rack b size
+  room_on line a b size same fits whole room =
+      have_room line b size (line_on line (shape_of a) (shape_of b) same fits) whole (subst (λ (sh : Shape). size ≤ room_of 2 sh) (sym same) room)
 
   -- what holds of the length of each member that stands, holds after such a pass that keeps lengths
   lengths_stay : {may : ℕ → RackCall → Type 0} (P : ℕ → Type 0) (change : ℕ → List ℕ → List ℕ → Type 0) (Fits : ℕ → List ℕ → Type 0) (a b : Store R) → IsSound rack a

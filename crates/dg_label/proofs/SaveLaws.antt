@@ -222,7 +222,7 @@ module _ {R : Type 0} (rack : Ghosts R) where
     rest_b : (q : ℕ) → is_good (members_of b q) ≡ false → BytesChange rack b e q IsSame
     rest_b = same_more rack b c e keeps untouched rest_c
 
-    pub save_untouched : (q : ℕ) → is_good (members_of a q) ≡ false → BytesChange rack a e q IsSame
+    save_untouched : (q : ℕ) → is_good (members_of a q) ≡ false → BytesChange rack a e q IsSame
     save_untouched = same_more rack a b e opens.array (λ q bad. opened_bad a b before after q opens bad) rest_b
 
     bad_e : (q : ℕ) → is_good (members_of d q) ≡ false → is_good (members_of e q) ≡ false
@@ -294,7 +294,7 @@ module _ {R : Type 0} (rack : Ghosts R) where
     ]
 
     -- it makes so many calls
-    pub save_most : after ≡ unsealed before → CallsAtMost rack b c (short_members after (2 * (shape_of b).b))
+    save_most : after ≡ unsealed before → CallsAtMost rack b c (short_members after (2 * (shape_of b).b))
         → CallsAtMost rack a e (save_calls (shape_of a).b before)
     save_most is lengthened =
         let n : ℕ = 2 * (shape_of a).b in
@@ -306,9 +306,14 @@ module _ {R : Type 0} (rack : Ghosts R) where
         let fourth = subst (λ (sh : Shape). CallsAtMost rack d e (2 * sh.b)) shape_d labels.most in
         omega (arith, first, next, third, fourth)
 
-    pub save_members : LeavesMembers rack body before a e
+    save_members : LeavesMembers rack body before a e
     save_members q was = elim (cases_Bool (is_good (members_of b q))) [
       | inl good ↦ left_behind q was good
       | inr bad ↦
           told_then (Left q) _ _ _ (opened_fell a b e before after body q opens was bad (bad_e q (bad_d q bad))) (rest_b q bad)
     ]
+
+    -- all three
+    pub save_leaves : after ≡ unsealed before → CallsAtMost rack b c (short_members after (2 * (shape_of b).b))
+        → LeavesMembers rack body before a e × ((q : ℕ) → is_good (members_of a q) ≡ false → BytesChange rack a e q IsSame) × CallsAtMost rack a e (save_calls (shape_of a).b before)
+    save_leaves is lengthened = (save_members, save_untouched, save_most is lengthened)

@@ -1,5 +1,5 @@
 -- The steps of the plan together, and what every plan keeps.
-use Rattle.std.proofs.Common.{◌≡◌, ◌<◌, ◌≤◌, ◌^◌, ◌==◌, ◌↔◌, ℕ, Bool, true, false, cond, List, [], ◌∷◌, length, get_or, replicate, inl, inr, refl, sym, ◌∙◌, ap, arith}
+use Rattle.std.proofs.Common.{◌≡◌, ◌<◌, ◌≤◌, ◌^◌, ◌==◌, ◌↔◌, ℕ, Bool, true, false, cond, List, [], ◌∷◌, length, get_or, replicate, inl, inr, refl, sym, ◌∙◌, ap, subst, arith}
 use Rattle.std.specs.Prelude.{Option, Some, None, IsSome, Result, Ok, Err, IfOk, IfErr, count_by, is_some, option_to_list}
 use Rattle.std.specs.BTreeMap.{BTreeMap, get}
 use Rattle.std.specs.Ordering.{nat_cmp}
@@ -27,7 +27,7 @@ use Rattle.dg_plan.specs.Marks.{IsMarkBy}
 use Rattle.dg_plan.specs.Placings.{AreStayed, homes_in, placed_of}
 use Rattle.dg_plan.specs.Planned.{IsPlanned, KeepsRules}
 use Rattle.dg_plan.specs.Folds.{files_placed, kept_placed, strays_placed}
-use Rattle.dg_plan.specs.Steps.{Ends, HasFiles, HasTargets}
+use Rattle.dg_plan.specs.Steps.{Ends, FilesGo, HasFiles, HasTargets}
 use Rattle.dg_plan.specs.Strays.{HasSeats, mark_of}
 use Rattle.dg_plan.specs.Targets.{homes_of, wants_of}
 use Rattle.dg_plan.specs.declared.placings.Placing.{Placing}
@@ -118,6 +118,13 @@ module _ (shape : Shape) (wants : List (Option Want)) (parents : List Parent) (h
         same_targets = has.same_targets;
         fits = has.fits;
       }
+
+-- what the files' step answered, by its arm
+pub files_found : {wants : List (Option Want)} {parents : List Parent} {homes : List Home} {rooms : List ℕ} {placing : Placing} {r : Result Placing ℕ} → r ≡ Ok placing → FilesGo wants parents homes rooms r → HasFiles wants parents homes rooms placing
+files_found is goes = subst (FilesGo _ _ _ _) is goes
+
+pub none_found : (wants : List (Option Want)) (parents : List Parent) (homes : List Home) (rooms : List ℕ) {i : ℕ} {r : Result Placing ℕ} → r ≡ Err i → FilesGo wants parents homes rooms r → files_placed wants parents homes rooms ≡ Err (Inode i)
+none_found wants parents homes rooms is goes = subst (FilesGo wants parents homes rooms) is goes
 
 -- homes of placed files are on boundaries
 pub homes_low : (shape : Shape) (wants : List (Option Want)) (parents : List Parent) (homes : List Home) (full rooms : List ℕ) (placing : Placing) → IsShape shape → full ≡ replicate shape.b shape.k

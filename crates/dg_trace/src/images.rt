@@ -54,11 +54,26 @@ fn make_room(image: &mut Vec<u8>) -> Result<(), NoMemory>
     }
 }
 
+/// Takes room for more bytes of an image, where there is none yet: for as many as are read at once, or for a sixteenth of those that are there, whichever is
+/// more. So grows an image whose superblock doesn't tell its length; the vector by itself would take room for twice its bytes.
+fn have_room(image: &mut Vec<u8>, more: usize) -> Result<(), NoMemory>
+    ensures { OnOk result (image.new.items ≡ image.old.items) }
+{
+    if more <= image.capacity().saturating_sub(image.len()) {
+        return Ok(());
+    }
+    match image.reserve_exact(PIECE.max(image.len() / 16)) {
+        Ok(()) => Ok(()),
+        Err(_) => Err(NoMemory),
+    }
+}
+
 /// Appends bytes to an image, and takes room for the rest once its superblock is there.
 fn append(image: &mut Vec<u8>, piece: &[u8]) -> Result<(), NoMemory>
     ensures { OnOk result (image.new.items ≡ image.old.items ++ piece.now) }
 {
     let before = image.len();
+    have_room(image, piece.len())?;
     if image.extend_from_slice(piece).is_err() {
         return Err(NoMemory);
     }
