@@ -1,6 +1,6 @@
 -- A trace on an array that was opened, by how its lines ended.
 use Rattle.std.proofs.Common.{◌≡◌, ◌≤◌, ◌+◌, ◌-◌, ◌^◌, ℕ, List, [], ◌∷◌, ◌++◌, length, arith, length-append, ap, inl, inr, refl, subst, ◌∙◌}
-use Rattle.std.specs.Prelude.{◌⊎◌, All, Option, Some}
+use Rattle.std.specs.Prelude.{◌⊎◌, All, None, Option, Some}
 use Rattle.std.specs.Option.{option_map}
 use Rattle.std.proofs.lemmas.List.Concat.{flat_map-append}
 use Rattle.dg_io.specs.RackCalls.{RackCall}

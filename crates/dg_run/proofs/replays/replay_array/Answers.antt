@@ -14,12 +14,12 @@ use Rattle.dg_run.proofs.replays.replay_array.Goals as goal
 pub serve_array-status-requires-clause-ready : goal.serve_array-status-requires-clause-ready
 serve_array-status-requires-clause-ready g c =
     let l = c.in_ok-live.ensures in
-    (blank_ready g.R.Rack g.met.R.Rack.made_none g.met.R.Rack.made_both g.met.R.Rack.after c.args.shape (Plain c.args.rack) c.in_ok-live.live c.in_ok-array.array c.requires.shape (l.rack ∙ c.plain.ensures) l.live l.none c.in_ok-array.ensures).ready
+    (blank_ready g.R.Rack g.met.R.Rack.made_none g.met.R.Rack.made_both g.met.R.Rack.after c.args.shape (Plain c.args.rack) c.in_ok-live.live c.in_ok-array.array c.requires.shape (l.rack ∙ c.plain-plain.ensures) l.live l.none c.in_ok-array.ensures).ready
 
 pub returns-clause-done : goal.returns-clause-done
 returns-clause-done g c is =
     let l = c.in_ok-live.ensures in
-    let n = blank_ready g.R.Rack g.met.R.Rack.made_none g.met.R.Rack.made_both g.met.R.Rack.after c.args.shape (Plain c.args.rack) c.in_ok-live.live c.in_ok-array.array c.requires.shape (l.rack ∙ c.plain.ensures) l.live l.none c.in_ok-array.ensures in
+    let n = blank_ready g.R.Rack g.met.R.Rack.made_none g.met.R.Rack.made_both g.met.R.Rack.after c.args.shape (Plain c.args.rack) c.in_ok-live.live c.in_ok-array.array c.requires.shape (l.rack ∙ c.plain-plain.ensures) l.live l.none c.in_ok-array.ensures in
     let s = c.serve_array-status in
     let all = array_replayed g.R.Rack g.met.R.Rack.made_none g.met.R.Rack.made_both g.met.R.Rack.after (Ran (g.R.Rack.counts c.args.rack) (g.R.Rack.counts (behind (below_of s.new.array))) (g.R.Rack.bytes c.args.rack) (g.R.Rack.bytes (behind (below_of s.new.array))) (g.R.Rack.tells (behind (below_of s.new.array)))) (MakeArray c.args.shape) c.args.shape c.args.first c.in_ok-array.array s.new.array
     (meant g.R.Rack g.met.R.Rack.made_none g.met.R.Rack.made_both g.met.R.Rack.after c.args.shape c.args.first c.args.rack c.in_ok-array.array s.new.array c.requires.first c.requires.shape n s.ensures.goes) _ _ _ _ (s.ensures.done is) in
@@ -28,7 +28,7 @@ returns-clause-done g c is =
 pub returns-clause-bad_line : goal.returns-clause-bad_line
 returns-clause-bad_line g c is =
     let l = c.in_ok-live.ensures in
-    let n = blank_ready g.R.Rack g.met.R.Rack.made_none g.met.R.Rack.made_both g.met.R.Rack.after c.args.shape (Plain c.args.rack) c.in_ok-live.live c.in_ok-array.array c.requires.shape (l.rack ∙ c.plain.ensures) l.live l.none c.in_ok-array.ensures in
+    let n = blank_ready g.R.Rack g.met.R.Rack.made_none g.met.R.Rack.made_both g.met.R.Rack.after c.args.shape (Plain c.args.rack) c.in_ok-live.live c.in_ok-array.array c.requires.shape (l.rack ∙ c.plain-plain.ensures) l.live l.none c.in_ok-array.ensures in
     let s = c.serve_array-status in
     let all = array_stopped g.R.Rack g.met.R.Rack.made_none g.met.R.Rack.made_both g.met.R.Rack.after (Ran (g.R.Rack.counts c.args.rack) (g.R.Rack.counts (behind (below_of s.new.array))) (g.R.Rack.bytes c.args.rack) (g.R.Rack.bytes (behind (below_of s.new.array))) (g.R.Rack.tells (behind (below_of s.new.array)))) (MakeArray c.args.shape) c.args.shape c.args.first c.in_ok-array.array s.new.array
     (meant g.R.Rack g.met.R.Rack.made_none g.met.R.Rack.made_both g.met.R.Rack.after c.args.shape c.args.first c.args.rack c.in_ok-array.array s.new.array c.requires.first c.requires.shape n s.ensures.goes) _ _ _ _ (s.ensures.bad_line is) in
@@ -37,7 +37,7 @@ returns-clause-bad_line g c is =
 pub returns-clause-broken : goal.returns-clause-broken
 returns-clause-broken g c is text line =
     let l = c.in_ok-live.ensures in
-    let n = blank_ready g.R.Rack g.met.R.Rack.made_none g.met.R.Rack.made_both g.met.R.Rack.after c.args.shape (Plain c.args.rack) c.in_ok-live.live c.in_ok-array.array c.requires.shape (l.rack ∙ c.plain.ensures) l.live l.none c.in_ok-array.ensures in
+    let n = blank_ready g.R.Rack g.met.R.Rack.made_none g.met.R.Rack.made_both g.met.R.Rack.after c.args.shape (Plain c.args.rack) c.in_ok-live.live c.in_ok-array.array c.requires.shape (l.rack ∙ c.plain-plain.ensures) l.live l.none c.in_ok-array.ensures in
     let s = c.serve_array-status in
     let all = array_broke_off g.R.Rack g.met.R.Rack.made_none g.met.R.Rack.made_both g.met.R.Rack.after (Ran (g.R.Rack.counts c.args.rack) (g.R.Rack.counts (behind (below_of s.new.array))) (g.R.Rack.bytes c.args.rack) (g.R.Rack.bytes (behind (below_of s.new.array))) (g.R.Rack.tells (behind (below_of s.new.array)))) (MakeArray c.args.shape) c.args.shape c.args.first c.in_ok-array.array s.new.array
     (meant g.R.Rack g.met.R.Rack.made_none g.met.R.Rack.made_both g.met.R.Rack.after c.args.shape c.args.first c.args.rack c.in_ok-array.array s.new.array c.requires.first c.requires.shape n s.ensures.goes) text _ _ _ _ line (s.ensures.broken is) in
@@ -46,7 +46,7 @@ returns-clause-broken g c is text line =
 pub returns-clause-part : goal.returns-clause-part
 returns-clause-part g c is text line =
     let l = c.in_ok-live.ensures in
-    let n = blank_ready g.R.Rack g.met.R.Rack.made_none g.met.R.Rack.made_both g.met.R.Rack.after c.args.shape (Plain c.args.rack) c.in_ok-live.live c.in_ok-array.array c.requires.shape (l.rack ∙ c.plain.ensures) l.live l.none c.in_ok-array.ensures in
+    let n = blank_ready g.R.Rack g.met.R.Rack.made_none g.met.R.Rack.made_both g.met.R.Rack.after c.args.shape (Plain c.args.rack) c.in_ok-live.live c.in_ok-array.array c.requires.shape (l.rack ∙ c.plain-plain.ensures) l.live l.none c.in_ok-array.ensures in
     let s = c.serve_array-status in
     let all = array_cut g.R.Rack g.met.R.Rack.made_none g.met.R.Rack.made_both g.met.R.Rack.after (Ran (g.R.Rack.counts c.args.rack) (g.R.Rack.counts (behind (below_of s.new.array))) (g.R.Rack.bytes c.args.rack) (g.R.Rack.bytes (behind (below_of s.new.array))) (g.R.Rack.tells (behind (below_of s.new.array)))) (MakeArray c.args.shape) c.args.shape c.args.first c.in_ok-array.array s.new.array
     (meant g.R.Rack g.met.R.Rack.made_none g.met.R.Rack.made_both g.met.R.Rack.after c.args.shape c.args.first c.args.rack c.in_ok-array.array s.new.array c.requires.first c.requires.shape n s.ensures.goes) (unread s.new.input) text _ _ _ _ c.requires.budget line (s.ensures.part is) in
@@ -55,7 +55,7 @@ returns-clause-part g c is text line =
 pub returns-clause-wanting : goal.returns-clause-wanting
 returns-clause-wanting g c is text line whole =
     let l = c.in_ok-live.ensures in
-    let n = blank_ready g.R.Rack g.met.R.Rack.made_none g.met.R.Rack.made_both g.met.R.Rack.after c.args.shape (Plain c.args.rack) c.in_ok-live.live c.in_ok-array.array c.requires.shape (l.rack ∙ c.plain.ensures) l.live l.none c.in_ok-array.ensures in
+    let n = blank_ready g.R.Rack g.met.R.Rack.made_none g.met.R.Rack.made_both g.met.R.Rack.after c.args.shape (Plain c.args.rack) c.in_ok-live.live c.in_ok-array.array c.requires.shape (l.rack ∙ c.plain-plain.ensures) l.live l.none c.in_ok-array.ensures in
     let s = c.serve_array-status in
     let all = array_ran_out g.R.Rack g.met.R.Rack.made_none g.met.R.Rack.made_both g.met.R.Rack.after (Ran (g.R.Rack.counts c.args.rack) (g.R.Rack.counts (behind (below_of s.new.array))) (g.R.Rack.bytes c.args.rack) (g.R.Rack.bytes (behind (below_of s.new.array))) (g.R.Rack.tells (behind (below_of s.new.array)))) (MakeArray c.args.shape) c.args.shape c.args.first c.in_ok-array.array s.new.array
     (meant g.R.Rack g.met.R.Rack.made_none g.met.R.Rack.made_both g.met.R.Rack.after c.args.shape c.args.first c.args.rack c.in_ok-array.array s.new.array c.requires.first c.requires.shape n s.ensures.goes)
@@ -65,7 +65,7 @@ returns-clause-wanting g c is text line whole =
 pub returns-clause-name : goal.returns-clause-name
 returns-clause-name g c =
     let l = c.in_ok-live.ensures in
-    let n = blank_ready g.R.Rack g.met.R.Rack.made_none g.met.R.Rack.made_both g.met.R.Rack.after c.args.shape (Plain c.args.rack) c.in_ok-live.live c.in_ok-array.array c.requires.shape (l.rack ∙ c.plain.ensures) l.live l.none c.in_ok-array.ensures in
+    let n = blank_ready g.R.Rack g.met.R.Rack.made_none g.met.R.Rack.made_both g.met.R.Rack.after c.args.shape (Plain c.args.rack) c.in_ok-live.live c.in_ok-array.array c.requires.shape (l.rack ∙ c.plain-plain.ensures) l.live l.none c.in_ok-array.ensures in
     let s = c.serve_array-status in
     let later = later_all g.R.Rack g.met.R.Rack.made_none g.met.R.Rack.made_both g.met.R.Rack.after c.args.shape c.args.first c.args.rack c.in_ok-array.array s.new.array c.requires.first c.requires.shape n s.ensures.goes in
     subst (λ r. g.R.Rack.name r ≡ g.R.Rack.name c.args.rack) (sym (behind_below c.into_rack.ensures c.into_rack-stop.ensures c.into_rack-left.ensures)) later.same_rack

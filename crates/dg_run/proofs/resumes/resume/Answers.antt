@@ -25,7 +25,7 @@ returns-in-Opened-clause-ends g c =
     let law = g.met.R.Rack in
     let start = c.in_ok-live.live in
     let s = c.resume_array-status in
-    let from = c.in_ok-live.ensures.rack ∙ c.plain.ensures in
+    let from = c.in_ok-live.ensures.rack ∙ c.plain-plain.ensures in
     let lacks = ap stop_room from in
     let a : Running g.row.R.Denot = record { volume = c.in-Opened.volume; hot = c.in-Opened.hot } in
     let all = ends_resume g.R.Rack law.made_none law.made_both law.after start c.in_ok-live.ensures.live c.in_ok-live.ensures.none a s.new.array opened s.ensures.goes lacks
@@ -43,7 +43,7 @@ returns-in-Opened-clause-name g c =
     let law = g.met.R.Rack in
     let start = c.in_ok-live.live in
     let s = c.resume_array-status in
-    let from = c.in_ok-live.ensures.rack ∙ c.plain.ensures in
+    let from = c.in_ok-live.ensures.rack ∙ c.plain-plain.ensures in
     let a : Running g.row.R.Denot = record { volume = c.in-Opened.volume; hot = c.in-Opened.hot } in
     let same = name_then g.R.Rack law.made_none law.made_both law.after start c.in_ok-live.ensures.live c.in_ok-live.ensures.none a opened s.new.array s.ensures.goes (ap stop_room from)
     (g.S.Source.left c.args.source.now) (g.S.Source.left s.new.source) (g.K.Sink.taken c.args.sink.now) (g.K.Sink.taken s.new.sink) in
@@ -57,7 +57,7 @@ returns-in-NoState-clause-ends g c =
     let start = c.in_ok-live.live in
     let now = c.in-NoState.live in
     let t = c.tell_no_state in
-    let from = c.in_ok-live.ensures.rack ∙ c.plain.ensures in
+    let from = c.in_ok-live.ensures.rack ∙ c.plain-plain.ensures in
     let all = ends_no_state g.R.Rack law.made_none law.made_both law.after start now c.in_ok-live.ensures.live c.in_ok-live.ensures.none
     (g.S.Source.left c.args.source.now) (g.K.Sink.taken c.args.sink.now) (g.K.Sink.taken t.new.sink) t.result t.ensures.is t.ensures.all t.ensures.part found in
     let none = room_still g.R.Rack law.made_none law.made_both law.after start now c.in_ok-live.ensures.live c.in_ok-live.ensures.none
@@ -72,7 +72,7 @@ returns-in-NoState-clause-name g c =
     let found = rw c.in-NoState.is at c.in_ok-volume.ensures in
     let law = g.met.R.Rack in
     let now = c.in-NoState.live in
-    let from = c.in_ok-live.ensures.rack ∙ c.plain.ensures in
+    let from = c.in_ok-live.ensures.rack ∙ c.plain-plain.ensures in
     let same = name_still g.R.Rack law.made_none law.made_both law.after c.in_ok-live.live now c.in_ok-live.ensures.live c.in_ok-live.ensures.none
     (g.S.Source.left c.args.source.now) (g.K.Sink.taken c.args.sink.now) (g.K.Sink.taken c.args.sink.now) found.leaves in
     ap g.R.Rack.name (c.into_rack-in-NoState.ensures ∙ ap (λ it. behind it) c.into_rack-stop-in-NoState.ensures) ∙ sym (name_behind g.R.Rack (rack_in now)) ∙ same ∙ ap (stop_name g.R.Rack) from
@@ -84,7 +84,7 @@ returns-clause-ends g c =
     let start = c.in_ok-live.live in
     let now = c.in-Unclean.live in
     let t = c.tell_unclean in
-    let from = c.in_ok-live.ensures.rack ∙ c.plain.ensures in
+    let from = c.in_ok-live.ensures.rack ∙ c.plain-plain.ensures in
     let all = ends_unclean g.R.Rack law.made_none law.made_both law.after start now c.in_ok-live.ensures.live c.in_ok-live.ensures.none
     (g.S.Source.left c.args.source.now) (g.K.Sink.taken c.args.sink.now) (g.K.Sink.taken t.new.sink) t.result t.ensures.is t.ensures.all t.ensures.part found in
     let none = room_still g.R.Rack law.made_none law.made_both law.after start now c.in_ok-live.ensures.live c.in_ok-live.ensures.none
@@ -99,7 +99,7 @@ returns-clause-name g c =
     let found = rw c.in-Unclean.is at c.in_ok-volume.ensures in
     let law = g.met.R.Rack in
     let now = c.in-Unclean.live in
-    let from = c.in_ok-live.ensures.rack ∙ c.plain.ensures in
+    let from = c.in_ok-live.ensures.rack ∙ c.plain-plain.ensures in
     let same = name_still g.R.Rack law.made_none law.made_both law.after c.in_ok-live.live now c.in_ok-live.ensures.live c.in_ok-live.ensures.none
     (g.S.Source.left c.args.source.now) (g.K.Sink.taken c.args.sink.now) (g.K.Sink.taken c.args.sink.now) found.leaves in
     ap g.R.Rack.name (c.into_rack-in-Unclean.ensures ∙ ap (λ it. behind it) c.into_rack-stop-in-Unclean.ensures) ∙ sym (name_behind g.R.Rack (rack_in now)) ∙ same ∙ ap (stop_name g.R.Rack) from
