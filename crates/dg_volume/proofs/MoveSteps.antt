@@ -31,10 +31,10 @@ use Rattle.dg_store.specs.Answers.{SameWritten}
 use Rattle.dg_store.specs.Stores.{TellsAll}
 use Rattle.dg_store.specs.Stores as stores
 use Rattle.dg_store.specs.declared.store.Store.{Store}
-use Rattle.dg_volume.proofs.ArrayLaws.{told_by, told_moved}
+use Rattle.dg_volume.proofs.ArrayLaws.{moved_both, told_by, told_moved}
 use Rattle.dg_volume.proofs.LabelLaws.{good_falls, relabels_behind}
 use Rattle.dg_volume.proofs.UseLaws.{fits_same, least_here, least_on, long_on}
-use Rattle.dg_volume.proofs.VolumeLaws.{HasRead, IsBeside, Labels, label_by, labeled_by, line_same, on_label, read_state, reads_in, reads_stay, same_in, steps_from, under_by}
+use Rattle.dg_volume.proofs.VolumeLaws.{HasRead, IsBeside, Labels, label_by, labeled_by, line_same, on_label, read_state, reads_in, reads_leave, reads_stay, same_in, steps_from, under_by}
 use Rattle.dg_volume.specs.Origins.{WasHeld}
 use Rattle.dg_volume.specs.Numbers.{unsettled_by}
 use Rattle.dg_volume.specs.Planned.{AnswersCheck, AreKnown, AreWanted, FindsOn, HasMovedArray, HasNoPlan, HasPlan, HasReadArray}
@@ -48,6 +48,7 @@ use Rattle.dg_volume.specs.declared.settles.Unsettled.TheVariants.{Lost, Malform
 use Rattle.dg_volume.specs.declared.volumes.Volume.{Volume}
 use Rattle.ufs_model.specs.Malformations.{IsFirstMalformation, IsSoundVolume}
 use Rattle.ufs_model.specs.declared.malformations.BadKind.{BadKind}
+use Rattle.ufs_pointer.specs.Buffers.{Buffers}
 
 pub loose_not_worn : LoosePhase ≡ WornPhase → ⊥
 loose_not_worn e = absurd (cc e)
@@ -182,7 +183,7 @@ module _ {S R : Type 0} (phase : phases.Ghosts S) (rack : Ghosts R) where
   }
 
   -- what moves left of it, where the homes stay
-  pub has_moved : (a b : Volume S R) → IsBeside phase rack a b → b.levels.fragment ≡ a.levels.fragment → IsWell phase rack a → SameWritten (table_of a) (table_of b) → Labels rack a b
+  has_moved : (a b : Volume S R) → IsBeside phase rack a b → b.levels.fragment ≡ a.levels.fragment → IsWell phase rack a → SameWritten (table_of a) (table_of b) → Labels rack a b
       → HasMovedArray rack a.store b.store → HasMoved a b
   has_moved a b beside levels well written labels h = record {
     phase_is = beside.phase_is;
@@ -203,15 +204,33 @@ module _ {S R : Type 0} (phase : phases.Ghosts S) (rack : Ghosts R) where
   }
 
   -- the written blocks, where reads were followed by moves
-  pub written_run : (a : Volume S R) (mid last : Store R) → HasReadArray rack a.store mid → SameWritten (stores.table_of mid) (stores.table_of last) → SameWritten (table_of a) (stores.table_of last)
+  written_run : (a : Volume S R) (mid last : Store R) → HasReadArray rack a.store mid → SameWritten (stores.table_of mid) (stores.table_of last) → SameWritten (table_of a) (stores.table_of last)
   written_run a mid last read written = subst (λ (t : Table). SameWritten t (stores.table_of last)) read.reads.table written
 
   -- the label, where reads were followed by moves
-  pub labels_run : (a : Volume S R) (mid last : Store R) (label : Option KeptLabel) → HasReadArray rack a.store mid → HasMovedArray rack mid last → Relabels rack (line_of a) mid last a.label label
+  labels_run : (a : Volume S R) (mid last : Store R) (label : Option KeptLabel) → HasReadArray rack a.store mid → HasMovedArray rack mid last → Relabels rack (line_of a) mid last a.label label
       → Relabels rack (line_of a) a.store last a.label label
   labels_run a mid last label read moved second =
       relabels_behind rack (line_of a) a.store mid last a.label label read.reads second (λ q was good.
       good_falls rack (rack.counts (stores.rack_of mid)).faults (rack.counts (stores.rack_of last)).faults (stores.members_of mid) (stores.members_of last) moved.falls q good)
+
+  -- what reads left of it, by what they left of its array and its buffers
+  pub read_over : (a : Volume S R) (store : Store R) (levels : Buffers) → IsWell phase rack a → levels.fragment ≡ a.levels.fragment → HasReadArray rack a.store store
+      → HasRead phase rack a (record a { store = store; levels = levels })
+  read_over a store levels well same h =
+      has_read a (record a { store = store; levels = levels }) well (record { phase_is = refl; pending = refl; homes = refl; copies = refl; in_use = refl }) same refl h
+
+  pub leaves_over : (a : Volume S R) (store : Store R) (levels : Buffers) → IsWell phase rack a → levels.fragment ≡ a.levels.fragment → HasReadArray rack a.store store
+      → Leaves phase phase rack a (record a { store = store; levels = levels })
+  leaves_over a store levels well same h = reads_leave phase rack a (record a { store = store; levels = levels }) well (read_over a store levels well same h)
+
+  -- what moves left of it behind such reads
+  pub moved_over : (a : Volume S R) (mid last : Store R) (label : Option KeptLabel) (levels : Buffers) → IsWell phase rack a → levels.fragment ≡ a.levels.fragment
+      → HasReadArray rack a.store mid → HasMovedArray rack mid last → SameWritten (stores.table_of mid) (stores.table_of last) → Relabels rack (line_of a) mid last a.label label
+      → HasMoved a (record a { store = last; label = label; levels = levels })
+  moved_over a mid last label levels well same read moved written labels =
+      has_moved a (record a { store = last; label = label; levels = levels }) (record { phase_is = refl; pending = refl; homes = refl; copies = refl; in_use = refl }) same well
+      (written_run a mid last read written) (labels_run a mid last label read moved labels) (moved_both rack a.store mid last read moved)
 
   -- ---- what is inferred
 
@@ -267,6 +286,9 @@ module _ {S R : Type 0} (phase : phases.Ghosts S) (rack : Ghosts R) where
     pub loose : phase.phase a.phase ≡ LoosePhase
     pub whole : has_lost (shape_of a) (members_of a) ≡ false
     pub in_use : FitsReduced (table_of a) (reduced_of a)
+
+  pub ready_of : (a : Volume S R) → IsWell phase rack a → phase.phase a.phase ≡ LoosePhase → has_lost (shape_of a) (members_of a) ≡ false → IsReady a
+  ready_of a well loose whole = record { loose = loose; whole = whole; in_use = well.in_use }
 
   not_settled : (a : Volume S R) → IsReady a → phase.phase a.phase ≢ SettledPhase
   not_settled a ready settled = loose_not_settled (sym ready.loose ∙ settled)
@@ -369,6 +391,10 @@ module _ {S R : Type 0} (phase : phases.Ghosts S) (rack : Ghosts R) where
     pub told : Tells rack b → TellsAll rack mid
     pub sound : FindsOn rack a.store mid kept (λ V. IsSoundVolume (shape_of a).l (shape_of a).n V)
 
+  pub checked_over : (a : Volume S R) (kept : KeptInference) (first mid : Store R) (b : Volume S R) → HasReadArray rack first mid → (Tells rack b → TellsAll rack mid)
+      → FindsOn rack a.store first kept (λ V. IsSoundVolume (shape_of a).l (shape_of a).n V) → IsChecked a kept b
+  checked_over a kept first mid b read told sound = record { mid = first; told = λ known. told_by rack first mid read.reads.keeps (told known); sound = sound }
+
   sound_in : {P : Type 0} → (a b : Volume S R) (kept : KeptInference) (V : List (List ℕ)) → Keeps a kept → IsChecked a kept b → (Known P rack b → StandsFor phase rack a V)
       → Known P rack b → IsSoundVolume (shape_of a).l (shape_of a).n V
   sound_in a b kept V keeps check held = found_in a b check.mid kept V (λ v. IsSoundVolume (shape_of a).l (shape_of a).n v) keeps (λ known. check.told (known.0)) held check.sound
@@ -404,6 +430,24 @@ module _ {S R : Type 0} (phase : phases.Ghosts S) (rack : Ghosts R) where
     pub plan : HasPlan rack a.store mid kept a.homes targets
     pub told : Tells rack b → TellsAll rack mid
     pub moves : HasMoved a b
+
+  pub run_over : (a : Volume S R) (kept : KeptInference) (targets : Targets) (mid : Store R) (b : Volume S R) → IsWell phase rack a → phase.kept a.phase ≡ Some kept
+      → HasReadArray rack a.store mid → HasPlan rack a.store mid kept a.homes targets → HasMovedArray rack mid b.store → HasMoved a b → HasRun a kept targets mid b
+  run_over a kept targets mid b well is read plan moved moves = record {
+    keeps = keeps_of a kept well is;
+    read = read;
+    plan = plan;
+    told = λ told. told_moved rack mid b.store moved told;
+    moves = moves;
+  }
+
+  -- where the homes stay
+  pub ran_over : (a : Volume S R) (kept : KeptInference) (targets : Targets) (mid last : Store R) (label : Option KeptLabel) (levels : Buffers) → IsWell phase rack a
+      → phase.kept a.phase ≡ Some kept → levels.fragment ≡ a.levels.fragment → HasReadArray rack a.store mid → HasPlan rack a.store mid kept a.homes targets → HasMovedArray rack mid last
+      → SameWritten (stores.table_of mid) (stores.table_of last) → Relabels rack (line_of a) mid last a.label label
+      → HasRun a kept targets mid (record a { store = last; label = label; levels = levels })
+  ran_over a kept targets mid last label levels well is same read plan moved written labels =
+      run_over a kept targets mid (record a { store = last; label = label; levels = levels }) well is read plan moved (moved_over a mid last label levels well same read moved written labels)
 
   module _ (a : Volume S R) (kept : KeptInference) (targets : Targets) (mid : Store R) (b : Volume S R) (run : HasRun a kept targets mid b) where
     -- the targets as the plan has them

@@ -57,6 +57,7 @@ use Rattle.dg_volume.specs.declared.phases.AnyPhase.TheVariants.{Loose, Settled,
 use Rattle.dg_volume.specs.declared.phases.InPhase as phases
 use Rattle.dg_volume.specs.declared.regroups.Remains.{Remains}
 use Rattle.dg_volume.specs.declared.volumes.Volume.{Volume}
+use Rattle.ufs_pointer.specs.Buffers.{Buffers}
 
 -- ---- seals
 
@@ -204,6 +205,18 @@ module _ {R : Type 0} (rack : Ghosts R) where
     pub good : HasGood a.store
     pub opening : OpensSeal rack a.store m.store a.label m.label
 
+  pub unsealed_by : (a : Volume AnyPhase R) (store : Store R) (label : Option KeptLabel) → IsWell any_phase rack a → has_lost (shape_of a) (members_of a) ≡ true → HasGood a.store
+      → OpensSeal rack a.store store a.label label → HasUnsealed a (record a { store = store; label = label })
+  unsealed_by a store label well lost good opening = record {
+    well = well;
+    lost = lost;
+    beside = record { phase_is = refl; pending = refl; homes = refl; copies = refl; in_use = refl };
+    levels = refl;
+    given_is = refl;
+    good = good;
+    opening = opening;
+  }
+
   module _ (a m : Volume AnyPhase R) (h : HasUnsealed a m) where
     abbrev labels_open : Labels rack a m
     labels_open = relabels_opened rack (line_of a) a.store m.store a.label m.label h.good h.opening
@@ -297,6 +310,27 @@ module _ {R : Type 0} (rack : Ghosts R) where
       pub are_left : LabelsAreLeft rack boundaries dropped
       pub stand_left : LabelsStandLeft rack boundaries dropped
       pub ascend : HomesLeftAscend
+
+    -- by what the calls left, with whatever phase
+    pub reduced_by : (a m : Volume AnyPhase R) (remains : Remains) (b : Volume AnyPhase R) (store : Store R) (levels : Buffers) (phase : AnyPhase) → HasUnsealed a m
+        → AreRemains m.store m.homes m.copies (live_of m) remains → IsTakenOut rack boundaries dropped remains m b → HasReadArray rack b.store store → levels.fragment ≡ b.levels.fragment
+        → LabelsAreLeft rack boundaries dropped → LabelsStandLeft rack boundaries dropped → HomesLeftAscend → HasReduced a m remains b (record b { store = store; levels = levels; phase = phase })
+    reduced_by a m remains b store levels phase unsealed remains_are out read same are_left stand_left ascend = record {
+      unsealed = unsealed;
+      remains_are = remains_are;
+      out = out;
+      read = read;
+      levels = same;
+      pending = refl;
+      in_use = refl;
+      homes = refl;
+      copies = refl;
+      given_is = refl;
+      label_is = refl;
+      are_left = are_left;
+      stand_left = stand_left;
+      ascend = ascend;
+    }
 
     module _ (a m : Volume AnyPhase R) (remains : Remains) (b f : Volume AnyPhase R) (h : HasReduced a m remains b f) where
       abbrev left : List ℕ

@@ -26,7 +26,7 @@ use Rattle.dg_store.specs.Stores as stores
 use Rattle.dg_store.specs.declared.store.Store.{Store}
 use Rattle.dg_volume.proofs.FewLaws.{few_homes}
 use Rattle.dg_volume.proofs.HomeLaws.{are_homes}
-use Rattle.dg_volume.proofs.MoveSteps.{HasRun, IsChecked, IsReady, settle_step, stands_moved, wants_right}
+use Rattle.dg_volume.proofs.MoveSteps.{HasMoved, HasRun, IsChecked, IsReady, settle_step, stands_moved, wants_right}
 use Rattle.dg_volume.proofs.PlacedLaws.{are_placed}
 use Rattle.dg_volume.specs.Origins.{WasHeld}
 use Rattle.dg_volume.specs.Planned.{HasPlan, IsPutInPlace}
@@ -51,7 +51,7 @@ no_limit limit missing none = omega (arith, none)
 
 module _ {S R : Type 0} (phase : phases.Ghosts S) (rack : Ghosts R) where
   -- the plan's homes are on boundaries of the array
-  pub plan_homes : (a : Volume S R) (mid new : Store R) (kept : KeptInference) (targets : Targets) (homes : List Home) → HasPlan rack a.store mid kept a.homes targets
+  plan_homes : (a : Volume S R) (mid new : Store R) (kept : KeptInference) (targets : Targets) (homes : List Home) → HasPlan rack a.store mid kept a.homes targets
       → homes ≡ homes_of targets → stores.shape_of new ≡ shape_of a → All (λ (home : Home). home.inode < 2 ^ 32) homes → AreHomes (stores.shape_of new) homes
   plan_homes a mid new kept targets homes found same shape small =
       let fits : All (λ (home : Home). home.inode < 2 ^ 32) (homes_of targets) = subst (λ (x : List Home). All (λ (home : Home). home.inode < 2 ^ 32) x) same small in
@@ -59,13 +59,30 @@ module _ {S R : Type 0} (phase : phases.Ghosts S) (rack : Ghosts R) where
       subst (λ (x : List Home). AreHomes (stores.shape_of new) x) (sym same) (subst (λ (x : Shape). AreHomes x (homes_of targets)) (sym shape) old)
 
   -- and no more than its blocks
-  pub plan_few : (a : Volume S R) (mid new : Store R) (kept : KeptInference) (targets : Targets) (homes : List Home) → HasPlan rack a.store mid kept a.homes targets
+  plan_few : (a : Volume S R) (mid new : Store R) (kept : KeptInference) (targets : Targets) (homes : List Home) → HasPlan rack a.store mid kept a.homes targets
       → homes ≡ homes_of targets → stores.shape_of new ≡ shape_of a → length homes ≤ (stores.shape_of new).n
   plan_few a mid new kept targets homes found same shape =
       let few : length (homes_of targets) ≤ length found.wants = few_homes found.wants (homes_of targets) found.rules.ascend (λ i some. let both = found.rules.homes_are i in both.0 some) in
       let size : length found.wants ≡ (shape_of a).n = found.wanted.fit.size in
       let old : length (homes_of targets) ≤ (shape_of a).n = omega (arith, few, size) in
       subst (λ (x : List Home). length x ≤ (stores.shape_of new).n) (sym same) (subst (λ (x : Shape). length (homes_of targets) ≤ x.n) (sym shape) old)
+
+  -- what moves by the plan left, where its homes are taken over
+  pub rehomed : (a b : Volume S R) (mid : Store R) (kept : KeptInference) (targets : Targets) (homes : List Home) → HasMoved phase rack a b → HasPlan rack a.store mid kept a.homes targets
+      → homes ≡ homes_of targets → All (λ (home : Home). home.inode < 2 ^ 32) homes → HasMoved phase rack a (record b { homes = homes })
+  rehomed a b mid kept targets homes moved found same small = record {
+    phase_is = moved.phase_is;
+    pending = moved.pending;
+    copies = moved.copies;
+    in_use = moved.in_use;
+    levels = moved.levels;
+    array = moved.array;
+    written = moved.written;
+    labeled = moved.labeled;
+    labels = moved.labels;
+    homes_are = plan_homes a mid b.store kept targets homes found same moved.array.stays.shape small;
+    few_homes = plan_few a mid b.store kept targets homes found same moved.array.stays.shape;
+  }
 
   -- ---- places
 

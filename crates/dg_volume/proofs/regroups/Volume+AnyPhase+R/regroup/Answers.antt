@@ -1,7 +1,7 @@
-use Rattle.std.proofs.Common.{◌∙◌, ◌≤◌, Bool, List, inl, inr, length, ap, refl, subst, sym}
+use Rattle.std.proofs.Common.{◌∙◌, ◌≤◌, Bool, List, inl, inr, length, ap, refl, rules, subst, sym}
 use Rattle.dg_model.specs.declared.shapes.Shape.{Shape}
 use Rattle.dg_volume.proofs.ArrayLaws.{on_err}
-use Rattle.dg_volume.proofs.RegroupSteps.{HasReduced, blank_fits, few_goes, goes_none, left_goes, left_kept, none_goes, open_goes, open_leaves, out_levels, out_size, phase_fits, regrouped, whole_goes}
+use Rattle.dg_volume.proofs.RegroupSteps.{HasReduced, blank_fits, few_goes, goes_none, left_goes, left_kept, none_goes, open_goes, open_leaves, out_levels, out_size, phase_fits, reduced_by, regrouped, unsealed_by, whole_goes}
 use Rattle.dg_volume.specs.Regroups.{AnswersRegroup, IsPhaseLeft}
 use Rattle.dg_volume.specs.declared.phases.AnyPhase.{AnyPhase}
 use Rattle.dg_volume.specs.declared.regroups.RegroupAnswer.{RegroupAnswer}
@@ -23,210 +23,75 @@ returns-then-not-has_good-clause-answer g c =
 
 -- ---- the seal was opened
 
-pub returns-in_err-found-clause-on : goal.returns-in_err-found-clause-on
-returns-in_err-found-clause-on g c =
+pub returns-in_err-found : goal.returns-in_err-found
+returns-in_err-found g c =
     let a = c.args.self.now in
     let m : Volume AnyPhase g.row.R.Denot = record a { store = c.open_seal.new.store; label = c.open_seal.new.label } in
-    open_goes g.R.Rack a m (record {
-      well = c.requires.well;
-      lost = sym c.is_degraded.ensures ∙ c.if-not-is_degraded.false;
-      beside = record { phase_is = refl; pending = refl; homes = refl; copies = refl; in_use = refl };
-      levels = refl;
-      given_is = refl;
-      good = c.has_good.ensures.some c.if-not-has_good.false;
-      opening = c.open_seal.ensures;
-    })
+    let unsealed = unsealed_by g.R.Rack a m.store m.label c.requires.well (sym c.is_degraded.ensures ∙ c.if-not-is_degraded.false) (c.has_good.ensures.some c.if-not-has_good.false) c.open_seal.ensures in
+    record {
+      on = open_goes g.R.Rack a m unsealed;
+      answer = search rules;
+      err = on_err c.from_residual.result _ (inl (open_leaves g.R.Rack a m unsealed, λ told. c.open_seal.ensures.array.stands));
+      given = refl;
+    }
 
-pub returns-in_err-found-clause-err : goal.returns-in_err-found-clause-err
-returns-in_err-found-clause-err g c =
+pub returns-in_default : goal.returns-in_default
+returns-in_default g c =
     let a = c.args.self.now in
     let m : Volume AnyPhase g.row.R.Denot = record a { store = c.open_seal.new.store; label = c.open_seal.new.label } in
-    let leaves = open_leaves g.R.Rack a m (record {
-      well = c.requires.well;
-      lost = sym c.is_degraded.ensures ∙ c.if-not-is_degraded.false;
-      beside = record { phase_is = refl; pending = refl; homes = refl; copies = refl; in_use = refl };
-      levels = refl;
-      given_is = refl;
-      good = c.has_good.ensures.some c.if-not-has_good.false;
-      opening = c.open_seal.ensures;
-    }) in
-    on_err c.from_residual.result _ (inl (leaves, λ told. c.open_seal.ensures.array.stands))
-
-pub returns-in_default-clause-on : goal.returns-in_default-clause-on
-returns-in_default-clause-on g c =
-    let a = c.args.self.now in
-    let m : Volume AnyPhase g.row.R.Denot = record a { store = c.open_seal.new.store; label = c.open_seal.new.label } in
-    open_goes g.R.Rack a m (record {
-      well = c.requires.well;
-      lost = sym c.is_degraded.ensures ∙ c.if-not-is_degraded.false;
-      beside = record { phase_is = refl; pending = refl; homes = refl; copies = refl; in_use = refl };
-      levels = refl;
-      given_is = refl;
-      good = c.has_good.ensures.some c.if-not-has_good.false;
-      opening = c.open_seal.ensures;
-    })
-
-pub returns-in_default-clause-answer : goal.returns-in_default-clause-answer
-returns-in_default-clause-answer g c =
-    let a = c.args.self.now in
-    let m : Volume AnyPhase g.row.R.Denot = record a { store = c.open_seal.new.store; label = c.open_seal.new.label } in
-    few_goes g.R.Rack a m (record {
-      well = c.requires.well;
-      lost = sym c.is_degraded.ensures ∙ c.if-not-is_degraded.false;
-      beside = record { phase_is = refl; pending = refl; homes = refl; copies = refl; in_use = refl };
-      levels = refl;
-      given_is = refl;
-      good = c.has_good.ensures.some c.if-not-has_good.false;
-      opening = c.open_seal.ensures;
-    }) (rw c.in_default.is at c.in_ok-found.ensures.few)
+    let unsealed = unsealed_by g.R.Rack a m.store m.label c.requires.well (sym c.is_degraded.ensures ∙ c.if-not-is_degraded.false) (c.has_good.ensures.some c.if-not-has_good.false) c.open_seal.ensures in
+    record {
+      on = open_goes g.R.Rack a m unsealed;
+      answer = few_goes g.R.Rack a m unsealed (rw c.in_default.is at c.in_ok-found.ensures.few);
+      err = tt;
+      given = refl;
+    }
 
 -- ---- the lost boundaries were taken out
 
-pub returns-in_err-phase-clause-on : goal.returns-in_err-phase-clause-on
-returns-in_err-phase-clause-on g c =
+pub returns-in_err-phase : goal.returns-in_err-phase
+returns-in_err-phase g c =
     let a = c.args.self.now in
     let m : Volume AnyPhase g.row.R.Denot = record a { store = c.open_seal.new.store; label = c.open_seal.new.label } in
+    let unsealed = unsealed_by g.R.Rack a m.store m.label c.requires.well (sym c.is_degraded.ensures ∙ c.if-not-is_degraded.false) (c.has_good.ensures.some c.if-not-has_good.false) c.open_seal.ensures in
     let b = c.take_out-answer.new.self in
+    let e = c.in_err-phase.ensures in
     let f : Volume AnyPhase g.row.R.Denot = record b { store = c.phase_left.new.store; levels = c.phase_left.new.levels } in
-    let reduced : HasReduced g.R.Rack _ _ a m c.in-Some.remains b f = record {
-      unsealed = record {
-        well = c.requires.well;
-        lost = sym c.is_degraded.ensures ∙ c.if-not-is_degraded.false;
-        beside = record { phase_is = refl; pending = refl; homes = refl; copies = refl; in_use = refl };
-        levels = refl;
-        given_is = refl;
-        good = c.has_good.ensures.some c.if-not-has_good.false;
-        opening = c.open_seal.ensures;
-      };
-      remains_are = rw c.in-Some.is at c.in_ok-found.ensures.left;
-      out = c.take_out-answer.ensures.out;
-      read = c.in_err-phase.ensures.reads;
-      levels = c.in_err-phase.ensures.levels;
-      pending = refl;
-      in_use = refl;
-      homes = refl;
-      copies = refl;
-      given_is = refl;
-      label_is = refl;
-      are_left = c.labels_are_left.ensures.labeled;
-      stand_left = c.labels_are_left.ensures.stands;
-      ascend = c.homes_left_ascend.ensures;
-    } in
-    left_goes g.R.Rack _ _ a m c.in-Some.remains b f reduced (blank_fits g.R.Rack _ _ a m c.in-Some.remains b f reduced refl)
+    let reduced : HasReduced g.R.Rack _ _ a m c.in-Some.remains b f =
+    reduced_by g.R.Rack _ _ a m c.in-Some.remains b f.store f.levels b.phase unsealed (rw c.in-Some.is at c.in_ok-found.ensures.left) c.take_out-answer.ensures.out e.reads e.levels
+    c.labels_are_left.ensures.labeled c.labels_are_left.ensures.stands c.homes_left_ascend.ensures in
+    record {
+      on = left_goes g.R.Rack _ _ a m c.in-Some.remains b f reduced (blank_fits g.R.Rack _ _ a m c.in-Some.remains b f reduced refl);
+      answer = search rules;
+      err = on_err _ _ (inr (left_kept g.R.Rack _ _ a m c.in-Some.remains b f reduced));
+      given = c.take_out-answer.ensures.out.given_is;
+    }
 
-pub returns-in_err-phase-clause-err : goal.returns-in_err-phase-clause-err
-returns-in_err-phase-clause-err g c =
+pub returns : goal.returns
+returns g c =
     let a = c.args.self.now in
     let m : Volume AnyPhase g.row.R.Denot = record a { store = c.open_seal.new.store; label = c.open_seal.new.label } in
+    let unsealed = unsealed_by g.R.Rack a m.store m.label c.requires.well (sym c.is_degraded.ensures ∙ c.if-not-is_degraded.false) (c.has_good.ensures.some c.if-not-has_good.false) c.open_seal.ensures in
     let b = c.take_out-answer.new.self in
-    let f : Volume AnyPhase g.row.R.Denot = record b { store = c.phase_left.new.store; levels = c.phase_left.new.levels } in
-    let reduced : HasReduced g.R.Rack _ _ a m c.in-Some.remains b f = record {
-      unsealed = record {
-        well = c.requires.well;
-        lost = sym c.is_degraded.ensures ∙ c.if-not-is_degraded.false;
-        beside = record { phase_is = refl; pending = refl; homes = refl; copies = refl; in_use = refl };
-        levels = refl;
-        given_is = refl;
-        good = c.has_good.ensures.some c.if-not-has_good.false;
-        opening = c.open_seal.ensures;
-      };
-      remains_are = rw c.in-Some.is at c.in_ok-found.ensures.left;
-      out = c.take_out-answer.ensures.out;
-      read = c.in_err-phase.ensures.reads;
-      levels = c.in_err-phase.ensures.levels;
-      pending = refl;
-      in_use = refl;
-      homes = refl;
-      copies = refl;
-      given_is = refl;
-      label_is = refl;
-      are_left = c.labels_are_left.ensures.labeled;
-      stand_left = c.labels_are_left.ensures.stands;
-      ascend = c.homes_left_ascend.ensures;
-    } in
-    on_err _ _ (inr (left_kept g.R.Rack _ _ a m c.in-Some.remains b f reduced))
-
-pub returns-clause-on : goal.returns-clause-on
-returns-clause-on g c =
-    let a = c.args.self.now in
-    let m : Volume AnyPhase g.row.R.Denot = record a { store = c.open_seal.new.store; label = c.open_seal.new.label } in
-    let b = c.take_out-answer.new.self in
+    let k = c.in_ok-phase.ensures in
     let f : Volume AnyPhase g.row.R.Denot = record b { store = c.phase_left.new.store; levels = c.phase_left.new.levels; phase = c.in_ok-phase.phase } in
-    let reduced : HasReduced g.R.Rack _ _ a m c.in-Some.remains b f = record {
-      unsealed = record {
-        well = c.requires.well;
-        lost = sym c.is_degraded.ensures ∙ c.if-not-is_degraded.false;
-        beside = record { phase_is = refl; pending = refl; homes = refl; copies = refl; in_use = refl };
-        levels = refl;
-        given_is = refl;
-        good = c.has_good.ensures.some c.if-not-has_good.false;
-        opening = c.open_seal.ensures;
-      };
-      remains_are = rw c.in-Some.is at c.in_ok-found.ensures.left;
-      out = c.take_out-answer.ensures.out;
-      read = c.in_ok-phase.ensures.reads;
-      levels = c.in_ok-phase.ensures.levels;
-      pending = refl;
-      in_use = refl;
-      homes = refl;
-      copies = refl;
-      given_is = refl;
-      label_is = refl;
-      are_left = c.labels_are_left.ensures.labeled;
-      stand_left = c.labels_are_left.ensures.stands;
-      ascend = c.homes_left_ascend.ensures;
-    } in
-    left_goes g.R.Rack _ _ a m c.in-Some.remains b f reduced (phase_fits g.R.Rack _ _ a m c.in-Some.remains b f reduced
-    (subst (λ (xs : List Bool). IsPhaseLeft g.R.Rack b.store f.store xs f.phase) c.deref.ensures.value c.in_ok-phase.ensures.phase))
-
-pub returns-clause-answer : goal.returns-clause-answer
-returns-clause-answer g c =
-    let a = c.args.self.now in
-    let m : Volume AnyPhase g.row.R.Denot = record a { store = c.open_seal.new.store; label = c.open_seal.new.label } in
-    let b = c.take_out-answer.new.self in
-    let f : Volume AnyPhase g.row.R.Denot = record b { store = c.phase_left.new.store; levels = c.phase_left.new.levels; phase = c.in_ok-phase.phase } in
-    let reduced : HasReduced g.R.Rack _ _ a m c.in-Some.remains b f = record {
-      unsealed = record {
-        well = c.requires.well;
-        lost = sym c.is_degraded.ensures ∙ c.if-not-is_degraded.false;
-        beside = record { phase_is = refl; pending = refl; homes = refl; copies = refl; in_use = refl };
-        levels = refl;
-        given_is = refl;
-        good = c.has_good.ensures.some c.if-not-has_good.false;
-        opening = c.open_seal.ensures;
-      };
-      remains_are = rw c.in-Some.is at c.in_ok-found.ensures.left;
-      out = c.take_out-answer.ensures.out;
-      read = c.in_ok-phase.ensures.reads;
-      levels = c.in_ok-phase.ensures.levels;
-      pending = refl;
-      in_use = refl;
-      homes = refl;
-      copies = refl;
-      given_is = refl;
-      label_is = refl;
-      are_left = c.labels_are_left.ensures.labeled;
-      stand_left = c.labels_are_left.ensures.stands;
-      ascend = c.homes_left_ascend.ensures;
-    } in
-    subst (λ (answer : RegroupAnswer). AnswersRegroup g.R.Rack _ _ a f answer) (sym c.take_out-answer.ensures.answer)
-    (regrouped g.R.Rack _ _ a m c.in-Some.remains b f reduced
-    (subst (λ (xs : List Bool). IsPhaseLeft g.R.Rack b.store f.store xs f.phase) c.deref.ensures.value c.in_ok-phase.ensures.phase))
+    let reduced : HasReduced g.R.Rack _ _ a m c.in-Some.remains b f =
+    reduced_by g.R.Rack _ _ a m c.in-Some.remains b f.store f.levels f.phase unsealed (rw c.in-Some.is at c.in_ok-found.ensures.left) c.take_out-answer.ensures.out k.reads k.levels
+    c.labels_are_left.ensures.labeled c.labels_are_left.ensures.stands c.homes_left_ascend.ensures in
+    let phase = subst (λ (xs : List Bool). IsPhaseLeft g.R.Rack b.store f.store xs f.phase) c.deref.ensures.value k.phase in
+    record {
+      on = left_goes g.R.Rack _ _ a m c.in-Some.remains b f reduced (phase_fits g.R.Rack _ _ a m c.in-Some.remains b f reduced phase);
+      answer = subst (λ (answer : RegroupAnswer). AnswersRegroup g.R.Rack _ _ a f answer) (sym c.take_out-answer.ensures.answer) (regrouped g.R.Rack _ _ a m c.in-Some.remains b f reduced phase);
+      err = tt;
+      given = c.take_out-answer.ensures.out.given_is;
+    }
 
 pub take_out-answer-requires-clause-well : goal.take_out-answer-requires-clause-well
 take_out-answer-requires-clause-well g c =
     let a = c.args.self.now in
     let m : Volume AnyPhase g.row.R.Denot = record a { store = c.open_seal.new.store; label = c.open_seal.new.label } in
-    let leaves = open_leaves g.R.Rack a m (record {
-      well = c.requires.well;
-      lost = sym c.is_degraded.ensures ∙ c.if-not-is_degraded.false;
-      beside = record { phase_is = refl; pending = refl; homes = refl; copies = refl; in_use = refl };
-      levels = refl;
-      given_is = refl;
-      good = c.has_good.ensures.some c.if-not-has_good.false;
-      opening = c.open_seal.ensures;
-    }) in
-    leaves.well
+    let unsealed = unsealed_by g.R.Rack a m.store m.label c.requires.well (sym c.is_degraded.ensures ∙ c.if-not-is_degraded.false) (c.has_good.ensures.some c.if-not-has_good.false) c.open_seal.ensures in
+    (open_leaves g.R.Rack a m unsealed).well
 
 pub take_out-answer-requires-clause-boundaries : goal.take_out-answer-requires-clause-boundaries
 take_out-answer-requires-clause-boundaries g c =
@@ -244,28 +109,12 @@ pub phase_left-requires-clause-levels : goal.phase_left-requires-clause-levels
 phase_left-requires-clause-levels g c =
     let a = c.args.self.now in
     let m : Volume AnyPhase g.row.R.Denot = record a { store = c.open_seal.new.store; label = c.open_seal.new.label } in
-    let leaves = open_leaves g.R.Rack a m (record {
-      well = c.requires.well;
-      lost = sym c.is_degraded.ensures ∙ c.if-not-is_degraded.false;
-      beside = record { phase_is = refl; pending = refl; homes = refl; copies = refl; in_use = refl };
-      levels = refl;
-      given_is = refl;
-      good = c.has_good.ensures.some c.if-not-has_good.false;
-      opening = c.open_seal.ensures;
-    }) in
-    out_levels g.R.Rack _ _ c.in-Some.remains m c.take_out-answer.new.self c.take_out-answer.ensures.out leaves.well
+    let unsealed = unsealed_by g.R.Rack a m.store m.label c.requires.well (sym c.is_degraded.ensures ∙ c.if-not-is_degraded.false) (c.has_good.ensures.some c.if-not-has_good.false) c.open_seal.ensures in
+    out_levels g.R.Rack _ _ c.in-Some.remains m c.take_out-answer.new.self c.take_out-answer.ensures.out (open_leaves g.R.Rack a m unsealed).well
 
 pub phase_left-requires-clause-marks : goal.phase_left-requires-clause-marks
 phase_left-requires-clause-marks g c =
     let a = c.args.self.now in
     let m : Volume AnyPhase g.row.R.Denot = record a { store = c.open_seal.new.store; label = c.open_seal.new.label } in
-    let leaves = open_leaves g.R.Rack a m (record {
-      well = c.requires.well;
-      lost = sym c.is_degraded.ensures ∙ c.if-not-is_degraded.false;
-      beside = record { phase_is = refl; pending = refl; homes = refl; copies = refl; in_use = refl };
-      levels = refl;
-      given_is = refl;
-      good = c.has_good.ensures.some c.if-not-has_good.false;
-      opening = c.open_seal.ensures;
-    }) in
-    ap length c.deref.ensures.value ∙ out_size g.R.Rack _ _ c.in-Some.remains m c.take_out-answer.new.self c.take_out-answer.ensures.out leaves.well
+    let unsealed = unsealed_by g.R.Rack a m.store m.label c.requires.well (sym c.is_degraded.ensures ∙ c.if-not-is_degraded.false) (c.has_good.ensures.some c.if-not-has_good.false) c.open_seal.ensures in
+    ap length c.deref.ensures.value ∙ out_size g.R.Rack _ _ c.in-Some.remains m c.take_out-answer.new.self c.take_out-answer.ensures.out (open_leaves g.R.Rack a m unsealed).well
