@@ -1,6 +1,6 @@
 -- An event on an opened volume was answered.
 use Rattle.std.proofs.Common.{◌≡◌, ◌∙◌, ◌<◌, ◌++◌, ℕ, List, ap, append_assoc, refl, sym, subst, arith, inl, inr}
-use Rattle.std.specs.Prelude.{true, false, Option, codes, length}
+use Rattle.std.specs.Prelude.{Bool, true, false, Option, codes, length}
 use Rattle.std.specs.Fmt.{decimal}
 use Rattle.std.specs.List.{concat}
 use Rattle.dg_io.specs.Told.{Told, Took, TookPart}
@@ -14,8 +14,10 @@ use Rattle.dg_model.specs.declared.replies.Reply.TheVariants.{Cut, Given, Listed
 use Rattle.dg_model.specs.declared.shapes.Shape.{Shape}
 use Rattle.dg_model.proofs.Lined.{in_lines}
 use Rattle.dg_saved.specs.PathReplies.{IsPlain}
-use Rattle.dg_saved.specs.Serves.{Served, ServedPart, Steps}
+use Rattle.dg_saved.specs.Serves.{EndsNothing, EndsServed, Served, ServedPart, Steps}
 use Rattle.dg_saved.specs.Texts.{cat_text, gives_file, gives_listing, ls_text}
+use Rattle.dg_saved.specs.declared.ends.SavedEnd.{SavedEnd}
+use Rattle.dg_saved.specs.declared.ends.SavedEnd.TheVariants.{Done, NoState, Refused, Unclean, WriteFault}
 use Rattle.dg_text.specs.HexLines.{last_line}
 use Rattle.dg_text.specs.Replies.{entries_text, reply_line}
 use Rattle.dg_text.specs.ToldSteps.{took_both, took_part_after, took_part_of_more}
@@ -82,40 +84,31 @@ module _ {R : Type 0} (rack : Ghosts R) (old new : Volume AnyPhase R) where
         output = subst (λ (b : List ℕ). Told (TookPart b) x y) (sym file.whole) told;
       }
 
-  -- a file was refused, or the directory, by a reply that is one line
-  pub file_refused : (path : List ℕ) (reply : Reply) (x y : Option (List ℕ)) → IsPlain reply → StepsTo any_phase any_phase rack old (Cat path) reply new
-      → Told (Took (reply_line reply)) x y → Served rack old (Cat path) cat_text gives_file false x y new
-  file_refused path reply x y plain by told = record {
+  -- nothing was given at the path, by a reply that is one line and whose text for such an event is its line
+  refused : (event : Event) (reply : Reply) (text : Reply → List ℕ) (gives : Reply → Bool) (x y : Option (List ℕ)) (end : SavedEnd) → gives reply ≡ false → text reply ≡ reply_line reply
+      → StepsTo any_phase any_phase rack old event reply new → EndsNothing (reply_line reply) x y end → EndsServed rack old event text gives x y new end
+  refused event reply text gives x y Done none line by told = absurd told
+  refused event reply text gives x y Refused none line by told = record {
     reply = reply;
-    steps = steps (λ recent. recent) (Cat path) reply by;
-    kind_is = plain.no_file;
-    output = subst (λ (t : List ℕ). Told (Took t) x y) (sym plain.file_line) told;
+    steps = steps (λ recent. recent) event reply by;
+    kind_is = none;
+    output = subst (λ (t : List ℕ). Told (Took t) x y) (sym line) told;
+  }
+  refused event reply text gives x y NoState none line by told = absurd told
+  refused event reply text gives x y Unclean none line by told = absurd told
+  refused event reply text gives x y WriteFault none line by told = record {
+    reply = reply;
+    steps = steps (λ recent. recent) event reply by;
+    output = subst (λ (t : List ℕ). Told (TookPart t) x y) (sym line) told;
   }
 
-  pub file_refused_part : (path : List ℕ) (reply : Reply) (x y : Option (List ℕ)) → IsPlain reply → StepsTo any_phase any_phase rack old (Cat path) reply new
-      → Told (TookPart (reply_line reply)) x y → ServedPart rack old (Cat path) cat_text x y new
-  file_refused_part path reply x y plain by told = record {
-    reply = reply;
-    steps = steps (λ recent. recent) (Cat path) reply by;
-    output = subst (λ (t : List ℕ). Told (TookPart t) x y) (sym plain.file_line) told;
-  }
+  pub file_refused : (path : List ℕ) (reply : Reply) (x y : Option (List ℕ)) (end : SavedEnd) → IsPlain reply → StepsTo any_phase any_phase rack old (Cat path) reply new
+      → EndsNothing (reply_line reply) x y end → EndsServed rack old (Cat path) cat_text gives_file x y new end
+  file_refused path reply x y end plain by told = refused (Cat path) reply cat_text gives_file x y end plain.no_file plain.file_line by told
 
-  pub listing_refused : (path : List ℕ) (reply : Reply) (x y : Option (List ℕ)) → IsPlain reply → StepsTo any_phase any_phase rack old (Ls path) reply new
-      → Told (Took (reply_line reply)) x y → Served rack old (Ls path) ls_text gives_listing false x y new
-  listing_refused path reply x y plain by told = record {
-    reply = reply;
-    steps = steps (λ recent. recent) (Ls path) reply by;
-    kind_is = plain.no_listing;
-    output = subst (λ (t : List ℕ). Told (Took t) x y) (sym plain.listing_line) told;
-  }
-
-  pub listing_refused_part : (path : List ℕ) (reply : Reply) (x y : Option (List ℕ)) → IsPlain reply → StepsTo any_phase any_phase rack old (Ls path) reply new
-      → Told (TookPart (reply_line reply)) x y → ServedPart rack old (Ls path) ls_text x y new
-  listing_refused_part path reply x y plain by told = record {
-    reply = reply;
-    steps = steps (λ recent. recent) (Ls path) reply by;
-    output = subst (λ (t : List ℕ). Told (TookPart t) x y) (sym plain.listing_line) told;
-  }
+  pub listing_refused : (path : List ℕ) (reply : Reply) (x y : Option (List ℕ)) (end : SavedEnd) → IsPlain reply → StepsTo any_phase any_phase rack old (Ls path) reply new
+      → EndsNothing (reply_line reply) x y end → EndsServed rack old (Ls path) ls_text gives_listing x y new end
+  listing_refused path reply x y end plain by told = refused (Ls path) reply ls_text gives_listing x y end plain.no_listing plain.listing_line by told
 
   -- a directory was listed: its entries, and the line that ends them
   pub listing_given : (path : List ℕ) (entries : List Listed) (n : ℕ) (x m y : Option (List ℕ)) → length entries ≡ n

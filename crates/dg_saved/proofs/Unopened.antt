@@ -4,19 +4,11 @@ use Rattle.std.specs.Prelude.{Bool}
 use Rattle.dg_model.specs.declared.events.Event.{Event}
 use Rattle.dg_model.specs.declared.replies.Reply.{Reply}
 use Rattle.dg_saved.specs.Calls.{Facts}
-use Rattle.dg_saved.specs.Ends.{CutUnopened, EndsEvent, EndsStatus, Printed, PrintedPart}
+use Rattle.dg_saved.specs.Ends.{EndsEvent, EndsStatus, EndsUnopened, Printed, PrintedPart}
 use Rattle.dg_saved.specs.Saved.{FoundNoState, FoundUnclean}
 use Rattle.dg_saved.specs.Texts.{nostate_text, unclean_text}
 use Rattle.dg_saved.specs.declared.ends.SavedEnd.{SavedEnd}
 use Rattle.dg_saved.specs.declared.ends.SavedEnd.TheVariants.{Done, NoState, Refused, Unclean, WriteFault}
-
--- by its end
-abbrev pub EndsUnopened : Facts → SavedEnd → Type 0
-EndsUnopened facts Done = ⊥
-EndsUnopened facts Refused = ⊥
-EndsUnopened facts NoState = FoundNoState facts × Printed facts nostate_text
-EndsUnopened facts Unclean = FoundUnclean facts × Printed facts unclean_text
-EndsUnopened facts WriteFault = CutUnopened facts
 
 pub no_state_ends : (facts : Facts) (end : SavedEnd) → (end ≡ NoState) ⊎ (end ≡ WriteFault) → (end ≢ WriteFault → Printed facts nostate_text)
     → (end ≡ WriteFault → PrintedPart facts nostate_text) → FoundNoState facts → EndsUnopened facts end

@@ -1,6 +1,10 @@
 -- How each command on a saved array ends. What is known of blocks is known where the rack tells the members in the end (`tells`).
-use Rattle.std.specs.Prelude.{◌≡◌, ◌⊎◌, ℕ, Bool, true, false, List}
+use Rattle.std.specs.Prelude.{◌≡◌, ◌≢◌, ◌⊎◌, ℕ, Bool, true, false, List}
+use Rattle.dg_io.specs.SinkLines.{LeavesLines}
 use Rattle.dg_io.specs.Told.{Told, Took, TookPart}
+use Rattle.dg_io.specs.declared.outside.Rack as racks
+use Rattle.dg_io.specs.declared.outside.Sink as sinks
+use Rattle.dg_model.specs.Causes.{Rose}
 use Rattle.dg_model.specs.declared.events.Event.{Event}
 use Rattle.dg_model.specs.declared.events.Event.TheVariants.{Cat, Ls}
 use Rattle.dg_model.specs.declared.replies.Reply.{Reply}
@@ -18,11 +22,27 @@ Printed facts text = Told (Took text) facts.taken facts.given
 abbrev pub PrintedPart : Facts → List ℕ → Type 0
 PrintedPart facts text = Told (TookPart text) facts.taken facts.given
 
+-- What every command that gives the rack back leaves: the rack's name, the faults of the sink by the end, and calls that each give whole lines, at most
+-- so many bytes without one.
+pub record LeavesSaved {K R : Type 0} (w : ℕ) (out_ghosts : sinks.Ghosts K) (rack : racks.Ghosts R) (old new : K) (before now : R) (end : SavedEnd) : Type 0 where
+  pub name : rack.name now ≡ rack.name before
+  pub write : end ≡ WriteFault → Rose (out_ghosts.faults old) (out_ghosts.faults new)
+  pub kept : end ≢ WriteFault → out_ghosts.faults new ≡ out_ghosts.faults old
+  pub lines : end ≢ WriteFault → LeavesLines w out_ghosts.whole out_ghosts.calls out_ghosts.taken old new
+
 -- ---- without an array
 
 -- the sink failed at the line that tells it
 abbrev pub CutUnopened : Facts → Type 0
 CutUnopened facts = (FoundNoState facts × PrintedPart facts nostate_text) ⊎ (FoundUnclean facts × PrintedPart facts unclean_text)
+
+-- by the end
+abbrev pub EndsUnopened : Facts → SavedEnd → Type 0
+EndsUnopened facts Done = ⊥
+EndsUnopened facts Refused = ⊥
+EndsUnopened facts NoState = FoundNoState facts × Printed facts nostate_text
+EndsUnopened facts Unclean = FoundUnclean facts × Printed facts unclean_text
+EndsUnopened facts WriteFault = CutUnopened facts
 
 -- ---- one event
 

@@ -5,3 +5,4 @@ pub mod PathReplies
 pub mod Saved
 pub mod Serves
 pub mod Texts
+pub mod Unopened

@@ -28,6 +28,14 @@ reply_at NotRegular = Some (ReplyRefused RefusedNotRegular)
 reply_at (Cut n) = None
 reply_at SinkFault = None
 
+-- the line of a reply that gives nothing was printed, or a part of it, by the end
+abbrev pub EndsNothing : List ℕ → Option (List ℕ) → Option (List ℕ) → SavedEnd → Type 0
+EndsNothing line taken given Done = ⊥
+EndsNothing line taken given Refused = Told (Took line) taken given
+EndsNothing line taken given NoState = ⊥
+EndsNothing line taken given Unclean = ⊥
+EndsNothing line taken given WriteFault = Told (TookPart line) taken given
+
 -- whichever state the volume was in, it made a step from it, to a state that it is in now
 abbrev pub Steps : {R : Type 0} → Ghosts R → Volume AnyPhase R → Event → Reply → Volume AnyPhase R → Type 0
 Steps {R = R} rack old event reply new = (origin : Origin R) (state : State) → StandsIn any_phase rack (WasHeld rack origin) old state →

@@ -4,14 +4,15 @@ ghost use Rattle.dg_io.specs.SinkLines.{LeavesLines};
 ghost use Rattle.dg_model.specs.Causes.{Rose};
 ghost use Rattle.dg_model.specs.declared.events.Event.{Event};
 ghost use Rattle.dg_saved.specs.Calls.{facts_of};
-ghost use Rattle.dg_saved.specs.Ends.{EndsCat};
+ghost use Rattle.dg_saved.specs.Ends.{EndsCat, LeavesSaved};
 ghost use Rattle.dg_saved.specs.Serves.{EndsServed};
 ghost use Rattle.dg_saved.specs.Texts.{cat_text, gives_file};
 ghost use Rattle.dg_volume.specs.Volumes.{IsWell, Leaves, any_phase};
 ghost use Rattle.ufs_model.specs.Paths.{is_path};
 
-use crate::ends::{Ended, SavedEnd, tell};
-use crate::replies::write_nothing;
+use crate::ends::{Ended, SavedEnd};
+use crate::replies::tell_nothing;
+use crate::unsaved::tell_unopened;
 use dg_io::{NoMemory, Rack, Sink};
 use dg_text::Raw;
 use dg_volume::{AnyPhase, CatAnswer, OpenAnswer, Volume, open};
@@ -36,10 +37,7 @@ fn serve_cat<K: Sink, R: Rack>(
         CatAnswer::Given(_) => SavedEnd::Done,
         CatAnswer::Cut(_) => SavedEnd::Refused,
         CatAnswer::SinkFault => SavedEnd::WriteFault,
-        nothing => match write_nothing(sink, nothing) {
-            Ok(()) => SavedEnd::Refused,
-            Err(_) => SavedEnd::WriteFault,
-        },
+        nothing => tell_nothing(sink, nothing),
     }
 }
 
@@ -52,22 +50,11 @@ pub fn cat_saved<K: Sink, R: Rack + Drop>(
     rack: R,
 ) -> Result<Ended<R>, NoMemory>
     requires path { is_path path.now ≡ true }
-    ensures name { IfOk result (λ ended. R.name ended.rack ≡ R.name rack) }
     ensures ends { IfOk result (λ ended. EndsCat (R.tells ended.rack) (facts_of K.Sink R.Rack sink.old sink.new rack ended.rack) path.now ended.end) }
     ensures none { OnErr result (sink.new ≡ sink.old) }
-    ensures write { IfOk result (λ ended. ended.end ≡ SavedEnd.WriteFault → Rose (K.faults sink.old) (K.faults sink.new)) }
-    ensures kept { IfOk result (λ ended. ended.end ≢ SavedEnd.WriteFault → K.faults sink.new ≡ K.faults sink.old) }
-    ensures lines { IfOk result (λ ended. ended.end ≢ SavedEnd.WriteFault → LeavesLines 1 K.whole K.calls K.taken sink.old sink.new) }
+    ensures leaves { IfOk result (λ ended. LeavesSaved 1 K.Sink R.Rack sink.old sink.new rack ended.rack ended.end) }
 {
     match open(alloc, rack)? {
-        OpenAnswer::NoState(rack) => Ok(Ended {
-            rack,
-            end: tell(sink, b"nostate\n", SavedEnd::NoState),
-        }),
-        OpenAnswer::Unclean(rack) => Ok(Ended {
-            rack,
-            end: tell(sink, b"unclean\n", SavedEnd::Unclean),
-        }),
         OpenAnswer::Opened(mut volume, _) => {
             let end = serve_cat(path, sink, &mut volume);
             Ok(Ended {
@@ -75,5 +62,6 @@ pub fn cat_saved<K: Sink, R: Rack + Drop>(
                 end,
             })
         }
+        unopened => Ok(tell_unopened(sink, unopened)),
     }
 }

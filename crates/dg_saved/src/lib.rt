@@ -9,6 +9,7 @@ mod listings;
 mod replies;
 mod shows;
 mod texts;
+mod unsaved;
 
 pub use ends::{Ended, SavedEnd};
 pub use files::cat_saved;

@@ -1,12 +1,14 @@
 // The reply at a path that gave nothing.
-ghost use Rattle.std.specs.Prelude.{◌≡◌, ℕ, IsSome, Some, OnOk, OnErr};
+ghost use Rattle.std.specs.Prelude.{◌≡◌, ◌≢◌, ℕ, IsSome, Some, OnOk, OnErr};
 ghost use Rattle.dg_io.specs.Faults.{HasCause};
 ghost use Rattle.dg_io.specs.SinkLines.{LeavesLines};
 ghost use Rattle.dg_io.specs.Told.{Told, Took, TookPart};
+ghost use Rattle.dg_model.specs.Causes.{Rose};
 ghost use Rattle.dg_model.specs.declared.replies.Reply.{Reply};
-ghost use Rattle.dg_saved.specs.Serves.{reply_at};
+ghost use Rattle.dg_saved.specs.Serves.{EndsNothing, reply_at};
 ghost use Rattle.dg_text.specs.Replies.{reply_line};
 
+use crate::ends::SavedEnd;
 use dg_io::Sink;
 use dg_model::{Failed, Reply};
 use dg_text::write_reply;
@@ -29,7 +31,7 @@ pub fn reply_at(answer: CatAnswer) -> Reply
 }
 
 /// Writes the reply to a path that gave nothing.
-pub fn write_nothing<K: Sink>(sink: &mut K, answer: CatAnswer) -> Result<(), Failed>
+fn write_nothing<K: Sink>(sink: &mut K, answer: CatAnswer) -> Result<(), Failed>
     requires { IsSome (reply_at answer) }
     ensures ok { (reply : Reply) → reply_at answer ≡ Some reply → OnOk result (Told (Took (reply_line reply)) (K.taken sink.old) (K.taken sink.new)) }
     ensures err { (reply : Reply) → reply_at answer ≡ Some reply
@@ -39,4 +41,18 @@ pub fn write_nothing<K: Sink>(sink: &mut K, answer: CatAnswer) -> Result<(), Fai
 {
     let reply = reply_at(answer);
     write_reply(sink, &reply)
+}
+
+/// Prints the reply to a path that gave nothing, which ends a command.
+pub fn tell_nothing<K: Sink>(sink: &mut K, answer: CatAnswer) -> SavedEnd
+    requires { IsSome (reply_at answer) }
+    ensures ends { (reply : Reply) → reply_at answer ≡ Some reply → EndsNothing (reply_line reply) (K.taken sink.old) (K.taken sink.new) result }
+    ensures write { result ≡ SavedEnd.WriteFault → Rose (K.faults sink.old) (K.faults sink.new) }
+    ensures kept { result ≢ SavedEnd.WriteFault → K.faults sink.new ≡ K.faults sink.old }
+    ensures lines { (w : ℕ) → result ≢ SavedEnd.WriteFault → LeavesLines w K.whole K.calls K.taken sink.old sink.new }
+{
+    match write_nothing(sink, answer) {
+        Ok(()) => SavedEnd::Refused,
+        Err(_) => SavedEnd::WriteFault,
+    }
 }

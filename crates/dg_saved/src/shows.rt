@@ -1,12 +1,11 @@
 // The state of a saved array.
-ghost use Rattle.std.specs.Prelude.{◌≡◌, ◌≢◌, IfOk, OnErr};
-ghost use Rattle.dg_io.specs.SinkLines.{LeavesLines};
-ghost use Rattle.dg_model.specs.Causes.{Rose};
+ghost use Rattle.std.specs.Prelude.{◌≡◌, IfOk, OnErr};
 ghost use Rattle.dg_saved.specs.Calls.{facts_of};
-ghost use Rattle.dg_saved.specs.Ends.{EndsStatus};
+ghost use Rattle.dg_saved.specs.Ends.{EndsStatus, LeavesSaved};
 
 use crate::ends::{Ended, SavedEnd, tell};
 use crate::texts::text_of;
+use crate::unsaved::tell_unopened;
 use dg_io::{NoMemory, Rack, Sink};
 use dg_volume::{OpenAnswer, open};
 use std::alloc::Global;
@@ -17,22 +16,11 @@ pub fn show_status<K: Sink, R: Rack + Drop>(
     sink: &mut K,
     rack: R,
 ) -> Result<Ended<R>, NoMemory>
-    ensures name { IfOk result (λ ended. R.name ended.rack ≡ R.name rack) }
     ensures ends { IfOk result (λ ended. EndsStatus (R.tells ended.rack) (facts_of K.Sink R.Rack sink.old sink.new rack ended.rack) ended.end) }
     ensures none { OnErr result (sink.new ≡ sink.old) }
-    ensures write { IfOk result (λ ended. ended.end ≡ SavedEnd.WriteFault → Rose (K.faults sink.old) (K.faults sink.new)) }
-    ensures kept { IfOk result (λ ended. ended.end ≢ SavedEnd.WriteFault → K.faults sink.new ≡ K.faults sink.old) }
-    ensures lines { IfOk result (λ ended. ended.end ≢ SavedEnd.WriteFault → LeavesLines 255 K.whole K.calls K.taken sink.old sink.new) }
+    ensures leaves { IfOk result (λ ended. LeavesSaved 255 K.Sink R.Rack sink.old sink.new rack ended.rack ended.end) }
 {
     match open(alloc, rack)? {
-        OpenAnswer::NoState(rack) => Ok(Ended {
-            rack,
-            end: tell(sink, b"nostate\n", SavedEnd::NoState),
-        }),
-        OpenAnswer::Unclean(rack) => Ok(Ended {
-            rack,
-            end: tell(sink, b"unclean\n", SavedEnd::Unclean),
-        }),
         OpenAnswer::Opened(volume, _) => {
             let text = text_of(alloc, &volume)?;
             let end = tell(sink, &text, SavedEnd::Done);
@@ -41,5 +29,6 @@ pub fn show_status<K: Sink, R: Rack + Drop>(
                 end,
             })
         }
+        unopened => Ok(tell_unopened(sink, unopened)),
     }
 }

@@ -1,9 +1,11 @@
-use Rattle.std.proofs.Common.{rules, subst}
+use Rattle.std.proofs.Common.{◌≡◌, rules, subst}
 use Rattle.dg_io.specs.SinkLines.{LeavesLines, lines_both}
 use Rattle.dg_io.specs.Told.{Told, Took, TookPart}
+use Rattle.dg_model.specs.Causes.{Rose}
 use Rattle.dg_model.specs.declared.events.Event.TheVariants.{Ls}
+use Rattle.dg_saved.specs.Serves.{EndsNothing}
 use Rattle.dg_saved.specs.PathReplies.{has_reply, ls_nothing}
-use Rattle.dg_saved.proofs.Served.{listing_cut, listing_end_part, listing_given, listing_part, listing_refused, listing_refused_part}
+use Rattle.dg_saved.proofs.Served.{listing_cut, listing_end_part, listing_given, listing_part, listing_refused}
 use Rattle.dg_saved.specs.Texts.{ls_text}
 use Rattle.dg_text.specs.ListingLines.{TookEntries, TookEntriesPart}
 use Rattle.dg_text.specs.Listings.{lines_in}
@@ -54,34 +56,19 @@ returns-in-SinkFault-clause-ends g c =
     listing_part g.R.Rack c.args.volume.now c.ls.new.self c.args.path.now rule.0 _ _ rule.3
     (subst (λ k. Told (TookPart (entries_text rule.0)) (g.K.Sink.taken c.args.sink.now) (g.K.Sink.taken k)) (search rules) taken)
 
-pub returns-in-Ok-write_nothing : goal.returns-in-Ok-write_nothing
-returns-in-Ok-write_nothing g c =
+pub returns-in_default : goal.returns-in_default
+returns-in_default g c =
     let old = c.args.volume.now in
     let has = has_reply c.ls.result c.in_default.not-Given c.in_default.not-Cut c.in_default.not-SinkFault in
     let rule = ls_nothing (TookEntries g.K.Sink) (TookEntriesPart g.K.Sink) (λ (s : Lines g.row.K.Denot). g.K.Sink.faults s.sink.now) c.new-entries.result c.ls.new.out
     (λ reply. StepsTo any_phase any_phase g.R.Rack old (Ls c.args.path.now) reply c.ls.new.self) c.ls.result has c.ls.ensures.steps in
     record {
       leaves = search rules;
-      ends = listing_refused g.R.Rack old c.ls.new.self c.args.path.now has.reply _ _ has.plain rule.1
-          (subst (λ k. Told (Took (reply_line has.reply)) (g.K.Sink.taken k) (g.K.Sink.taken c.write_nothing.new.sink)) (search (rules, rule.0)) (c.in-Ok-write_nothing.ensures.ok has.reply has.is));
-      write = search rules;
-      kept = search rules;
-      lines = λ other. subst (λ k. LeavesLines 255 g.K.Sink.whole g.K.Sink.calls g.K.Sink.taken k c.write_nothing.new.sink) (search (rules, rule.0)) (c.in-Ok-write_nothing.ensures.lines 255);
-    }
-
-pub returns-in-Err-write_nothing : goal.returns-in-Err-write_nothing
-returns-in-Err-write_nothing g c =
-    let old = c.args.volume.now in
-    let has = has_reply c.ls.result c.in_default.not-Given c.in_default.not-Cut c.in_default.not-SinkFault in
-    let rule = ls_nothing (TookEntries g.K.Sink) (TookEntriesPart g.K.Sink) (λ (s : Lines g.row.K.Denot). g.K.Sink.faults s.sink.now) c.new-entries.result c.ls.new.out
-    (λ reply. StepsTo any_phase any_phase g.R.Rack old (Ls c.args.path.now) reply c.ls.new.self) c.ls.result has c.ls.ensures.steps in
-    record {
-      leaves = search rules;
-      ends = listing_refused_part g.R.Rack old c.ls.new.self c.args.path.now has.reply _ _ has.plain rule.1
-          (subst (λ k. Told (TookPart (reply_line has.reply)) (g.K.Sink.taken k) (g.K.Sink.taken c.write_nothing.new.sink)) (search (rules, rule.0)) (c.in-Err-write_nothing.ensures.err has.reply has.is));
-      write = search rules;
-      kept = search rules;
-      lines = search rules;
+      ends = listing_refused g.R.Rack old c.ls.new.self c.args.path.now has.reply _ _ c.tell_nothing.result has.plain rule.1
+          (subst (λ k. EndsNothing (reply_line has.reply) (g.K.Sink.taken k) (g.K.Sink.taken c.tell_nothing.new.sink) c.tell_nothing.result) (search (rules, rule.0)) (c.tell_nothing.ensures.ends has.reply has.is));
+      write = λ is. subst (λ k. Rose (g.K.Sink.faults k) (g.K.Sink.faults c.tell_nothing.new.sink)) (search (rules, rule.0)) (c.tell_nothing.ensures.write is);
+      kept = λ other. subst (λ k. g.K.Sink.faults c.tell_nothing.new.sink ≡ g.K.Sink.faults k) (search (rules, rule.0)) (c.tell_nothing.ensures.kept other);
+      lines = λ other. subst (λ k. LeavesLines 255 g.K.Sink.whole g.K.Sink.calls g.K.Sink.taken k c.tell_nothing.new.sink) (search (rules, rule.0)) (c.tell_nothing.ensures.lines 255 other);
     }
 
 pub returns-in-Ok-clause-lines : goal.returns-in-Ok-clause-lines
