@@ -15,7 +15,7 @@ use Rattle.dg_parity.specs.ParityRacks.{IsNew, groups_in, parity_bytes, parity_w
 use Rattle.dg_parity.specs.declared.groups.Group.{Group}
 use Rattle.dg_parity.specs.declared.parity_racks.ParityRack.{ParityRack}
 use Rattle.dg_parity.specs.declared.parity_racks.ParityRack.TheVariants.{OfGroups, Plain}
-use Rattle.dg_store.specs.Leaves.{IsCallBelow}
+use Rattle.dg_store.specs.Leaves.{IsCallBelow, IsCallOrBlankBelow}
 use Rattle.dg_store.specs.Stores.{members_of}
 use Rattle.dg_volume.specs.Disks.{AreSingle, LeavesDisks}
 use Rattle.dg_volume.specs.Regroups.{GoesOn}
@@ -27,7 +27,7 @@ use Rattle.dg_volume_tests.specs.Grouped.{IsOfGroups}
 
 -- ---- what calls leave
 
-new_groups : {R : Type 0} (rack : Ghosts R) (below : R) (groups n : ℕ) (it : ParityRack R) → IsNew rack below groups n it → groups_in it ≡ groups
+pub new_groups : {R : Type 0} (rack : Ghosts R) (below : R) (groups n : ℕ) (it : ParityRack R) → IsNew rack below groups n it → groups_in it ≡ groups
 new_groups rack below groups n (Plain it) new = absurd new
 new_groups rack below groups n (OfGroups it) new = new.count
 
@@ -35,7 +35,7 @@ new_groups rack below groups n (OfGroups it) new = new.count
 pub blank_grouped : {R : Type 0} (rack : Ghosts R) (shape : Shape) (below : R) (groups n : ℕ) (before : ParityRack R) (volume : Volume Loose (ParityRack R))
     → IsNew rack below groups n before → shape.b ≤ groups → IsBlankVolume (parity_words rack) shape before volume → IsOfGroups loose_phase rack volume
 blank_grouped rack shape below groups n before volume new few blank =
-    let stays = shape_stays rack (parity_words rack) (λ a b calls made. made) (IsCallBelow shape.b) before (rack_of volume) blank.own.made in
+    let stays = shape_stays rack (parity_words rack) (λ a b calls made. made) (IsCallOrBlankBelow shape.b) before (rack_of volume) blank.own.made in
     record {
       well = blank.well;
       groups = omega (arith, few, new_groups rack below groups n before new, stays.groups, ap (λ (s : Shape). s.b) blank.shape_is);
@@ -69,13 +69,13 @@ has_groups phase rack volume is = if_some (width_in (rack_of volume)) is.groups 
   if_some None few = tt
   if_some (Some n) few = few
 
-out_by : (m : MemberState) → ((m ≢ Out) → ⊥) → m ≡ Out
+pub out_by : (m : MemberState) → ((m ≢ Out) → ⊥) → m ≡ Out
 out_by Good not = absurd (not (λ e. absurd (cc e)))
 out_by (Filling n) not = absurd (not (λ e. absurd (cc e)))
 out_by Out not = refl
 
 -- the second member of a group has no byte
-second_bytes : {R : Type 0} (rack : Ghosts R) (it : Grouped R) (x : ℕ) → grouped_bytes rack it (2 * x + 1) ≡ Some []
+pub second_bytes : {R : Type 0} (rack : Ghosts R) (it : Grouped R) (x : ℕ) → grouped_bytes rack it (2 * x + 1) ≡ Some []
 second_bytes rack it x = ap (λ (o : Option Group). told_of rack it.rack o) at where
   at : group_at it.groups (2 * x + 1) ≡ None
   at = ap (λ (r : ℕ). if r == 0 then slice_get it.groups ((2 * x + 1) / 2) else None) (mul-add-mod_self_left 2 x 1)

@@ -1,4 +1,6 @@
 mod GroupedLemmas
+mod LiveGroupLemmas
 mod LiveLemmas
 mod OpenedLemmas
 mod ReadyLemmas
+mod RoomLemmas

@@ -14,7 +14,7 @@ use Rattle.dg_volume.specs.declared.volumes.Volume.{Volume}
 use Rattle.dg_volume_tests.specs.Ready.{IsReady}
 
 -- the law of `dg_regroup` on names
-abbrev TellNames : Type 0
+abbrev pub TellNames : Type 0
 TellNames = (one other : List ℕ) (n m : ℕ) → All (λ s. s < 16) one → All (λ s. s < 16) other → named n one ≡ named m other → (one ≡ other) × (n ≡ m)
 
 same_count : {R : Type 0} (rack : Ghosts R) → TellNames → (r s : LiveRack R) → live_name rack r ≡ live_name rack s → live_count r ≡ live_count s

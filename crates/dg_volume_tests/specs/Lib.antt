@@ -1,2 +1,3 @@
 pub mod Grouped
 pub mod Ready
+pub mod Rooms

@@ -14,9 +14,9 @@ use std::process::Abort;
 use std::test::Fail;
 
 // Bytes of a disk.
-const ROOM: u64 = 512 * 22;
+pub const ROOM: u64 = 512 * 22;
 
-const MENDED: MendDiskAnswer = MendDiskAnswer::Mended(21);
+pub const MENDED: MendDiskAnswer = MendDiskAnswer::Mended(21);
 
 /// A volume over groups.
 type Grouped<R> = Volume<AnyPhase, ParityRack<R>>;
@@ -117,7 +117,7 @@ fn count_gone<R: Rack>(volume: &mut Grouped<R>, first: u8) -> Result<u32, Fail>
 
 /// A call on a disk, given by its boundary and its place, and the answer.
 #[derive(Clone, Copy)]
-enum Call {
+pub enum Call {
     Drop(u32, u32, DropDiskAnswer),
     Mend(u32, u32, MendDiskAnswer),
 }

@@ -8,7 +8,11 @@ mod checkpoint_faults;
 #[cfg(test)]
 mod disk_faults;
 #[cfg(test)]
+mod double_commits;
+#[cfg(test)]
 mod even_blocks;
+#[cfg(test)]
+mod live_disks;
 #[cfg(test)]
 mod opened_tests;
 #[cfg(test)]
