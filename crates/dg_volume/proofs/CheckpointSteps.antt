@@ -1,28 +1,26 @@
 -- A volume makes a step by a save that is kept.
-use Rattle.std.proofs.Common.{◌≡◌, ◌≢◌, ◌∙◌, ◌+◌, ◌*◌, ℕ, true, false, List, inl, inr, refl, sym, ap, subst, arith}
-use Rattle.std.specs.Prelude.{IfSome, None, Option, Some}
+use Rattle.std.proofs.Common.{◌≡◌, ◌∙◌, ◌+◌, ◌*◌, ℕ, true, false, List, refl, sym, ap, subst, arith}
+use Rattle.std.specs.Prelude.{IfSome, Option}
 use Rattle.std.specs.Option.{option_map}
 use Rattle.std.proofs.lemmas.Bool.{false≢true}
 use Rattle.dg_io.specs.declared.checkpoints.CommitAnswer.{CommitAnswer}
 use Rattle.dg_io.specs.declared.outside.Rack.{Ghosts}
-use Rattle.dg_label.specs.Labels.{AreNumbers, AreSized, IsKeptOf, IsOfBoundariesInUse, StandsLabeled}
+use Rattle.dg_label.specs.Labels.{AreNumbers, StandsLabeled}
 use Rattle.dg_label.specs.LineLaws.{seal_on}
 use Rattle.dg_label.specs.Seals.{HasGood, HasNoGood}
-use Rattle.dg_label.specs.declared.labels.KeptLabel.{KeptLabel}
 use Rattle.dg_model.specs.Changes.{IsLeastLostIn}
 use Rattle.dg_model.specs.Lives.{boundary_at}
 use Rattle.dg_model.specs.Members.{partner_of}
-use Rattle.dg_model.specs.Seals.{HoldsLabel, LastLabel, forgotten, keeps_label}
+use Rattle.dg_model.specs.Seals.{LastLabel, forgotten}
 use Rattle.dg_model.specs.States.{IsLeastLost, State}
 use Rattle.dg_model.specs.declared.events.Event.TheVariants.{Save}
-use Rattle.dg_model.specs.declared.members.MemberState.TheVariants.{Out}
 use Rattle.dg_model.specs.declared.replies.Reply.TheVariants.{Lost, Saved}
 use Rattle.dg_model.specs.declared.shapes.Shape.{Shape}
 use Rattle.dg_store.specs.Leaves.{IsCallOrExtendBelow}
 use Rattle.dg_store.specs.Stores as stores
 use Rattle.dg_store.specs.declared.store.Store.{Store}
 use Rattle.dg_volume.proofs.CommitSteps.{commit_goes, left_at, passes_at, saves_at}
-use Rattle.dg_volume.proofs.LabelLaws.{here_filling}
+use Rattle.dg_volume.proofs.ForgetLaws.{label_forgotten, out_each}
 use Rattle.dg_volume.proofs.UseLaws.{least_here}
 use Rattle.dg_volume.proofs.VolumeLaws.{leaves_none}
 use Rattle.dg_volume.specs.Commits.{CommitsArray, committed, left_on}
@@ -73,10 +71,6 @@ module _ {S R : Type 0} (phase : phases.Ghosts S) (rack : Ghosts R) where
     on : GoesOn phase rack m (record m { store = store })
     on = commit_goes phase rack room goes extra answer m store h saved.well
 
-    -- a member that is refilled has a good partner
-    out_each : (q : ℕ) → stores.members_of store q ≢ Out → ⊥
-    out_each q here = false≢true (sym (none (partner_of q)) ∙ on.well.array.paired q (here_filling (stores.members_of store q) here (none q)))
-
     line : line_of after ≡ line_of a
     line = on.line ∙ saved.line
 
@@ -95,7 +89,7 @@ module _ {S R : Type 0} (phase : phases.Ghosts S) (rack : Ghosts R) where
             fits = w.labeled.fits;
             numbers = subst (λ (x : Shape). IfSome a.label (AreNumbers x)) (sym line) well.labeled.numbers;
             sealed = seal_on (shape_of a) (stores.shape_of store) a.label shape well.labeled.sealed;
-            lengths = λ q here. absurd (out_each q here);
+            lengths = λ q here. absurd (out_each rack store w.array none q here);
             filling = λ q fills. absurd (false≢true (sym (none (partner_of q)) ∙ w.array.paired q fills));
           };
           in_use = w.in_use;
@@ -113,40 +107,6 @@ module _ {S R : Type 0} (phase : phases.Ghosts S) (rack : Ghosts R) where
         let rise = saved.rise in
         record { well = after_well; boundaries = saved.boundaries; line = line; calls = omega (arith, rise.calls, on.calls); writes = omega (arith, rise.writes, on.writes) }
 
-    forgets : (last : Option LastLabel) → StandsLabeled rack (line_of a) a.store a.label last → StandsLabeled rack (line_of a) store a.label (option_map forgotten last)
-    forgets last stands = record {
-      kept = kept_of last a.label stands.kept;
-      holds = held last;
-      sizes = sized last;
-      of_array = of_last last stands.of_array;
-      filling = λ q fills. lacks last q;
-      fresh = λ q below here lacking. absurd (out_each q here);
-    }
-      where
-        kept_of : (last : Option LastLabel) (kept : Option KeptLabel) → IsKeptOf last kept → IsKeptOf (option_map forgotten last) kept
-        kept_of None None is = tt
-        kept_of None (Some k) is = absurd is
-        kept_of (Some l) None is = absurd is
-        kept_of (Some l) (Some k) is = record { format = is.format; sequence = is.sequence; sealed = is.sealed; body = is.body }
-
-        held : (last : Option LastLabel) → IfSome (option_map forgotten last) (λ l. HoldsLabel l (rack.bytes (stores.rack_of store)))
-        held None = tt
-        held (Some l) = record { label = λ q keeps. absurd (false≢true keeps); body = λ q keeps sealed. absurd (false≢true keeps) }
-
-        sized : (last : Option LastLabel) → IfSome (option_map forgotten last) (λ l. l.shape ≡ line_of a → AreSized rack store l)
-        sized None = tt
-        sized (Some l) = λ named q keeps. absurd (false≢true keeps)
-
-        of_last : (last : Option LastLabel) → IfSome last (IsOfBoundariesInUse (line_of a) (shape_of a)) → IfSome (option_map forgotten last) (IsOfBoundariesInUse (line_of a) (stores.shape_of store))
-        of_last None of = tt
-        of_last (Some l) of = λ why.
-            let is = of (elim why [ inl sealed ↦ inl sealed | inr same ↦ inr (sym shape ∙ same) ]) in
-            record { shape_is = is.shape_is ∙ sym shape; numbers_are = is.numbers_are }
-
-        lacks : (last : Option LastLabel) (q : ℕ) → keeps_label (option_map forgotten last) q ≡ false
-        lacks None q = refl
-        lacks (Some l) q = refl
-
     first_lost : IsLeastLost (shape_of after) (members_of after) 0
     first_lost =
         let some = on.well.array.table.shape.least_boundaries in
@@ -163,7 +123,7 @@ module _ {S R : Type 0} (phase : phases.Ghosts S) (rack : Ghosts R) where
           next,
           record {
             is = is;
-            label = subst (λ (x : Shape). StandsLabeled rack x store a.label last) (sym line) (forgets state.label st.label);
+            label = subst (λ (x : Shape). StandsLabeled rack x store a.label last) (sym line) (label_forgotten rack store on.well.array none (line_of a) a.store a.label state.label shape st.label);
             holds = λ told. let had = left.holds told in record { array = had.array; inferred = had.inferred };
           },
           (

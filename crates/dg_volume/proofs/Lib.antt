@@ -15,6 +15,7 @@ mod FaultLaws
 mod FewLaws
 mod FileAnswers
 mod FileLaws
+mod ForgetLaws
 mod GoneLaws
 mod HomeLaws
 mod LabelLaws

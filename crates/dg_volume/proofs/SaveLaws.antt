@@ -8,7 +8,7 @@ use Rattle.std.proofs.lemmas.Bool.{cases_lt, false≢true}
 use Rattle.std.proofs.lemmas.List.{get_or_past, map-append, take_more}
 use Rattle.std.proofs.lemmas.List.FromFn.{get_or-map-range_with_len, length-map-range_with_len, map-range_with_len_more}
 use Rattle.dg_io.specs.declared.outside.Rack.{Ghosts}
-use Rattle.dg_label.specs.Labels.{AreSized, IsKeptOf, IsLabeled, IsOfBoundariesInUse, StandsLabeled, next_number}
+use Rattle.dg_label.specs.Labels.{IsKeptOf, IsLabeled, StandsLabeled, next_number}
 use Rattle.dg_label.specs.Seals.{AnswersSave, HasNoGood, KeepsArrayBy, saved_label}
 use Rattle.dg_label.specs.declared.labels.KeptLabel.{KeptLabel}
 use Rattle.dg_label.specs.declared.saves.SaveAnswer.{SaveAnswer}
@@ -18,16 +18,15 @@ use Rattle.dg_model.specs.Changes.{AreGoodMarks, PassesSave}
 use Rattle.dg_model.specs.Homes.{home_of}
 use Rattle.dg_model.specs.Lives.{boundary_at}
 use Rattle.dg_model.specs.Marks.{is_marked}
-use Rattle.dg_model.specs.Members.{is_good, partner_of}
+use Rattle.dg_model.specs.Members.{is_good}
 use Rattle.dg_model.specs.Openings.{FitsReduced}
 use Rattle.dg_model.specs.Saves.{AreHomes, CanBeSaved, HasForm, SavedState, body_of, room_of}
-use Rattle.dg_model.specs.Seals.{HoldsLabel, LastLabel, forgotten, keeps_label as has_label, next_sequence}
+use Rattle.dg_model.specs.Seals.{LastLabel, forgotten, next_sequence}
 use Rattle.dg_model.specs.States.{State, has_lost}
 use Rattle.dg_model.specs.Steps.{Step}
 use Rattle.dg_model.specs.Tables.{Table}
 use Rattle.dg_model.specs.declared.events.Event.TheVariants.{Save}
 use Rattle.dg_model.specs.declared.homes.Home.{Home}
-use Rattle.dg_model.specs.declared.members.MemberState.TheVariants.{Out}
 use Rattle.dg_model.specs.declared.phases.Phase.{Phase}
 use Rattle.dg_model.specs.declared.phases.Phase.TheVariants.{Loose as LoosePhase, Settled as SettledPhase, Worn as WornPhase}
 use Rattle.dg_model.specs.declared.replies.Reply.{Reply}
@@ -40,7 +39,7 @@ use Rattle.dg_store.specs.Stores.{IsSound}
 use Rattle.dg_store.specs.Stores as stores
 use Rattle.dg_store.specs.declared.store.Store.{Store}
 use Rattle.dg_volume.proofs.FaultLaws.{array_outs, array_tells}
-use Rattle.dg_volume.proofs.LabelLaws.{here_filling}
+use Rattle.dg_volume.proofs.ForgetLaws.{label_forgotten}
 use Rattle.dg_volume.proofs.UseLaws.{fits_table, least_on}
 use Rattle.dg_volume.proofs.VolumeLaws.{line_same, lost_on}
 use Rattle.dg_volume.specs.Origins.{Origin, WasHeld}
@@ -316,42 +315,9 @@ module _ {S R : Type 0} (phase : phases.Ghosts S) (rack : Ghosts R) where
     -- ---- no member is good
 
     forgets : (last : Option LastLabel) → StandsUnder rack a last → label ≡ a.label → HasNoGood store → StandsLabeled rack (line_of a) store label (option_map forgotten last)
-    forgets last stands same none = subst (λ (k : Option KeptLabel). StandsLabeled rack (line_of a) store k (option_map forgotten last)) (sym same) (record {
-      kept = kept_of last a.label stands.kept;
-      holds = held last;
-      sizes = sized last;
-      of_array = of_last last stands.of_array;
-      filling = λ q fills. lacks last q;
-      fresh = λ q below here lacking. absurd (out_each q here);
-    })
-      where
-        kept_of : (last : Option LastLabel) (kept : Option KeptLabel) → IsKeptOf last kept → IsKeptOf (option_map forgotten last) kept
-        kept_of None None is = tt
-        kept_of None (Some k) is = absurd is
-        kept_of (Some l) None is = absurd is
-        kept_of (Some l) (Some k) is = record { format = is.format; sequence = is.sequence; sealed = is.sealed; body = is.body }
-
-        held : (last : Option LastLabel) → IfSome (option_map forgotten last) (λ l. HoldsLabel l (rack.bytes (stores.rack_of store)))
-        held None = tt
-        held (Some l) = record { label = λ q keeps. absurd (false≢true keeps); body = λ q keeps sealed. absurd (false≢true keeps) }
-
-        sized : (last : Option LastLabel) → IfSome (option_map forgotten last) (λ l. l.shape ≡ line_of a → AreSized rack store l)
-        sized None = tt
-        sized (Some l) = λ named q keeps. absurd (false≢true keeps)
-
-        of_last : (last : Option LastLabel) → IfSome last (IsOfBoundariesInUse (line_of a) (shape_of a)) → IfSome (option_map forgotten last) (IsOfBoundariesInUse (line_of a) (stores.shape_of store))
-        of_last None of = tt
-        of_last (Some l) of = λ why.
-            let is = of (elim why [ inl sealed ↦ inl sealed | inr same ↦ inr (sym shape ∙ same) ]) in
-            record { shape_is = is.shape_is ∙ sym shape; numbers_are = is.numbers_are }
-
-        lacks : (last : Option LastLabel) (q : ℕ) → has_label (option_map forgotten last) q ≡ false
-        lacks None q = refl
-        lacks (Some l) q = refl
-
-        -- a member that is refilled has a good partner
-        out_each : (q : ℕ) → stores.members_of store q ≢ Out → ⊥
-        out_each q here = false≢true (sym (none (partner_of q)) ∙ keeps.sound.paired q (here_filling (stores.members_of store q) here (none q)))
+    forgets last stands same none =
+        subst (λ (k : Option KeptLabel). StandsLabeled rack (line_of a) store k (option_map forgotten last)) (sym same)
+        (label_forgotten rack store keeps.sound none (line_of a) a.store a.label last shape stands)
 
     saves_none : (hot body : List ℕ) (s : ℕ) → FitsReduced (table_of a) (reduced_of a) → AnswersSave rack (line_of a) body a.store store a.label label (Lost s)
         → StepsHot phase phase rack hot a Save (LostReply (boundary_at (live_of a) s)) after
