@@ -19,7 +19,7 @@ use Rattle.dg_regroup.specs.LiveRacks.{is_there, live_counts, live_in}
 use Rattle.dg_run.proofs.Continuing.{told_volume}
 use Rattle.dg_run.proofs.Laters.{GoesBy, later_went}
 use Rattle.dg_run.proofs.Segments.{by_place, there_by}
-use Rattle.dg_run.specs.Courses.{AnswersBy, Course, Leading, Standing, Went}
+use Rattle.dg_run.specs.Courses.{AnswersBy, AreInUse, Course, Leading, Standing, Went}
 use Rattle.dg_run.specs.Histories.{EventAnswered, EventCut, EventDone, EventListed, EventWanted, IsReady, KnownBy, Running, RunsTo, VolumeRunsTo, standing_of, below_of, boundaries_of, live_of, on_pairs, running}
 use Rattle.dg_run.specs.Plain.{IsOfPairs}
 use Rattle.dg_run.specs.Replays.{HoldsInUse}
@@ -36,7 +36,13 @@ use Rattle.dg_volume.specs.Volumes as volumes
 
 pub leading_less : {R K J : Type 0} (rack : Ghosts R) (w : J → K) (old : Standing (StopRack R)) (event : Event) (reply : Reply) (new : Standing (StopRack R)) → Leading rack K old event reply new
     → Leading rack J old event reply new
-leading_less rack w old event reply new h = record { step = step_less w old.state event reply new.state h.step; answers = h.answers; tied = h.tied; went = h.went }
+leading_less rack w old event reply new h = record {
+  step = step_less w old.state event reply new.state h.step;
+  answers = h.answers;
+  in_use = h.in_use;
+  tied = h.tied;
+  went = h.went;
+}
 
 pub course_less : {R K J : Type 0} (rack : Ghosts R) (w : J → K) (old : Standing (StopRack R)) (events : List Event) (replies : List Reply) (new : Standing (StopRack R)) → Course rack K old events replies new
     → Course rack J old events replies new
@@ -103,6 +109,10 @@ allowed_of old new Save reply h = tt
 allowed_of old new (DropDisk s j) reply h = subst (λ (r : Reply). IsAllowed plain old (DropDisk s j) r new) (sym h) tt
 allowed_of old new (MendDisk s j) reply h = subst (λ (r : Reply). IsAllowed plain old (MendDisk s j) r new) (sym h) tt
 
+-- the boundaries in use of a state that an array is in
+pub in_use_in : {R P : Type 0} (rack : Ghosts R) (b : Running R) (state : State) → IsReady rack b → volumes.StandsIn any_phase (running rack) P b.volume state → AreInUse state
+in_use_in rack b state ready stands = subst AreInUse (sym stands.is) (record { live = ready.sound.in_use.live; number = ready.sound.in_use.number })
+
 module _ {R : Type 0} (rack : Ghosts R) (none : (s : R) → rack.made s [] s) (both : (a b c : R) (x y : List RackCall) → rack.made a x b → rack.made b y c → rack.made a (x ++ y) c)
     (law : (a b : R) (made : List RackCall) → rack.made a made b → After rack made a b) where
   -- the counts of the members in use are those of the rack below
@@ -125,6 +135,7 @@ module _ {R : Type 0} (rack : Ghosts R) (none : (s : R) → rack.made s [] s) (b
   leads_on a b event reply state next goes stands answers step = record {
     step = step;
     answers = answers;
+    in_use = in_use_in rack b next goes.on.ready stands;
     tied = tied_in b next goes.on.ready stands;
     went = subst (λ (n : ℕ). Went rack event n (below_of a) (below_of b)) (sym (ap (λ (s : State). s.boundaries) stands.is ∙ goes.on.boundaries)) goes.went;
   }

@@ -5,6 +5,7 @@ mod Breaks
 mod Broken
 mod Completing
 mod Continuing
+mod Doubling
 mod Ended
 mod FileParts
 mod Happening

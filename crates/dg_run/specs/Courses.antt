@@ -1,8 +1,9 @@
 -- What became of an array event by event: its states, and the racks that its boundaries in use stood on. Such a rack is plain, or keeps a checkpoint; what
 -- the rack of the run became by it isn't asked here.
-use Rattle.std.specs.Prelude.{◌≡◌, ◌⊎◌, ◌∷◌, [], List, Option, Some, None, ℕ}
+use Rattle.std.specs.Prelude.{◌≡◌, ◌⊎◌, ◌∷◌, [], List, Option, Some, None, ℕ, length}
 use Rattle.dg_io.specs.Makes.{Makes}
 use Rattle.dg_io.specs.declared.outside.Rack.{Ghosts}
+use Rattle.dg_model.specs.Lives.{AreLive}
 use Rattle.dg_model.specs.Moments.{AreCountsOf}
 use Rattle.dg_model.specs.States.{State}
 use Rattle.dg_model.specs.Steps.{IsReduced, Step}
@@ -37,10 +38,16 @@ Went {R = R} rack Save bound old new =
 Went rack (Replace s j) bound old new = Makes (stop_words rack) (IsCallOrBlankBelow bound) old new
 Went rack event bound old new = Makes (stop_words rack) (IsCallBelow bound) old new
 
+-- The boundaries in use ascend and are of the first line, and the array's numbers say how many they are.
+pub record AreInUse (state : State) : Type 0 where
+  pub live : AreLive state.boundaries state.live
+  pub number : length state.live ≡ state.table.shape.b
+
 -- An event led from one to the next: by a step of the model, by such calls; and the counts of the members in use are those of the rack then.
 pub record Leading {R : Type 0} (rack : Ghosts R) (Known : Type 0) (old : Standing (StopRack R)) (event : Event) (reply : Reply) (new : Standing (StopRack R)) : Type 0 where
   pub step : Step Known old.state event reply new.state
   pub answers : AnswersBy old.state event reply (stop_room old.rack)
+  pub in_use : AreInUse new.state
   pub tied : AreCountsOf new.state.live (stop_counts rack new.rack) new.state.counts
   pub went : Went rack event new.state.boundaries old.rack new.rack
 

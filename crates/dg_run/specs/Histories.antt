@@ -98,6 +98,10 @@ standing_of array state = record { state = state; rack = below_of array }
 abbrev pub on_pairs : {R : Type 0} → Ghosts R → Standing (StopRack R) → Moment
 on_pairs rack now = record { state = now.state; beneath = record { counts = stop_counts rack now.rack; out = λ d. false } }
 
+-- Of an array over a rack that keeps a checkpoint these are the counts of the rack of the run, and no disk is out.
+abbrev pub on_double : {R : Type 0} → Ghosts R → Standing (StopRack R) → Moment
+on_double rack now = record { state = now.state; beneath = record { counts = rack.counts (behind now.rack); out = λ d. false } }
+
 -- From a state of an array these events led to another one, in which it stands now, with these replies. That it stood for the first state's blocks may
 -- rest on something, and that it stands for the last one's on that and on what members told that are no more in use.
 pub record Leads {R : Type 0} (rack : Ghosts R) (Stands : Type 0 → State → Type 0) (origin : Origin (LiveRack (StopRack R))) (state : State)
