@@ -65,8 +65,8 @@ module _ {R : Type 0} (rack : Ghosts R) where
       → (rack.counts (rack_in a)).faults (member_at (live_in a) q) < (rack.counts (rack_in b)).faults (member_at (live_in a) q)
   rose_there a b same q there rose =
       let now : (live_counts rack b).faults q ≡ (rack.counts (rack_in b)).faults (member_at (live_in a) q) =
-          subst (λ (numbers : List ℕ). (live_counts rack b).faults q ≡ (rack.counts (rack_in b)).faults (member_at numbers q)) same
-          (counts_there b q (subst (λ (numbers : List ℕ). is_there numbers q ≡ true) (sym same) there)) in
+      subst (λ (numbers : List ℕ). (live_counts rack b).faults q ≡ (rack.counts (rack_in b)).faults (member_at numbers q)) same
+      (counts_there b q (subst (λ (numbers : List ℕ). is_there numbers q ≡ true) (sym same) there)) in
       let was = counts_there a q there in
       omega (arith, rose, was, now)
 
@@ -88,7 +88,7 @@ module _ {R : Type 0} (rack : Ghosts R) where
   reads_by_places none both may a b there reads made =
       let passes : PassesOn (front rack) IsReadOrWrite a b = passes_on (front rack) may IsReadOrWrite a b there (λ call is. reads_below (live_in a) call (reads call is)) made in
       let behind : ReadsBehind rack (rack_in a) (rack_in b) =
-          reads_behind rack (rack_in a) (rack_in b) (makes_made (front rack) IsReadOrWrite (front_none rack none) (front_both rack both) (rack_in a) (rack_in b) passes.below) in
+      reads_behind rack (rack_in a) (rack_in b) (makes_made (front rack) IsReadOrWrite (front_none rack none) (front_both rack both) (rack_in a) (rack_in b) passes.below) in
       record {
         live_is = passes.live_is;
         below = behind.below;
