@@ -1,12 +1,12 @@
 -- Histories whose bytes are told; and the run of a history's states over members of which nothing is counted behind the array's own.
 use Rattle.std.proofs.Common.{◌≡◌, ◌≤◌, ◌<◌, ◌/◌, ◌∙◌, ◌++◌, inl, inr, ℕ, List, [], ◌∷◌, length, refl, sym, ap, subst, arith}
-use Rattle.std.specs.Prelude.{◌≢◌, if◌then◌else◌, nat_lt, All, Some}
+use Rattle.std.specs.Prelude.{◌≢◌, if◌then◌else◌, false, nat_lt, All, Some}
 use Rattle.std.proofs.lemmas.Bool.{cases_lt}
 use Rattle.std.proofs.lemmas.List.Elements.{All-head, All-tail}
 use Rattle.std.proofs.lemmas.List.FromFn.{length-range_with_len}
 use Rattle.dg_kept.specs.Opened.{AreTold}
 use Rattle.dg_model.proofs.KnownLaws.{run_less, step_less}
-use Rattle.dg_model.proofs.MomentLaws.{history_runs}
+use Rattle.dg_model.proofs.MomentLaws.{history_runs, tied_less}
 use Rattle.dg_model.proofs.StepLaws.{StayInUse}
 use Rattle.dg_model.specs.Causes.{NoneRose, Rose}
 use Rattle.dg_model.specs.Lives.{all_live, member_at}
@@ -29,7 +29,7 @@ use Rattle.dg_uses.proofs.Seated.{IsSeated, blank_seated, run_sits, sits_next, s
 happens_less : {K J : Type 0} → (J → K) → (kind : Kind) (old : Moment) (event : Event) (reply : Reply) (new : Moment) → Happens K kind old event reply new
     → Happens J kind old event reply new
 happens_less w kind old event reply new h =
-    record { step = step_less w old.state event reply new.state h.step; allowed = h.allowed; rise = h.rise; tied = tied_less w kind old event reply new h.tied }
+    record { step = step_less w old.state event reply new.state h.step; allowed = h.allowed; rise = h.rise; tied = tied_less w kind event old new h.tied }
 
 pub history_less : {K J : Type 0} → (J → K) → (kind : Kind) (old : Moment) (events : List Event) (replies : List Reply) (new : Moment)
     → History K kind old events replies new → History J kind old events replies new
@@ -39,12 +39,25 @@ history_less w kind old (event ∷ events) [] new h = absurd h
 history_less w kind old (event ∷ events) (reply ∷ replies) new h =
     (h.0, happens_less w kind old event reply h.0 h.1, history_less w kind h.0 events replies new h.2)
 
+makes_less : {K J : Type 0} → (J → K) → (kind : Kind) (event : Event) (shape : Shape) (before : Counts) (blank : Moment) → Makes K kind event shape before blank
+    → Makes J kind event shape before blank
+makes_less w kind event shape before blank h = record {
+  first = h.first;
+  is_blank = h.is_blank;
+  begun = h.begun;
+  rise = h.rise;
+  tied = tied_less w kind event (record { state = record blank.state { counts = h.first }; beneath = record { counts = before; out = λ d. false } }) blank h.tied;
+}
+
 pub history_told : {K : Type 0} → K → (before : Counts) (events : List Event) (replies : List Reply) (new : Moment) → HistoryOf K before events replies new
     → HistoryOf AreTold before events replies new
 history_told known before [] [] new h = h
-history_told known before (Array shape ∷ events) (Done ∷ replies) new h = (h.0, h.1, history_less (λ _. known) _ h.0 events replies new h.2)
-history_told known before (Safe shape ∷ events) (Done ∷ replies) new h = (h.0, h.1, history_less (λ _. known) _ h.0 events replies new h.2)
-history_told known before (Parity shape n ∷ events) (Done ∷ replies) new h = (h.0, h.1, history_less (λ _. known) _ h.0 events replies new h.2)
+history_told known before (Array shape ∷ events) (Done ∷ replies) new h =
+    (h.0, makes_less (λ _. known) _ (Array shape) shape before h.0 h.1, history_less (λ _. known) _ h.0 events replies new h.2)
+history_told known before (Safe shape ∷ events) (Done ∷ replies) new h =
+    (h.0, makes_less (λ _. known) _ (Safe shape) shape before h.0 h.1, history_less (λ _. known) _ h.0 events replies new h.2)
+history_told known before (Parity shape n ∷ events) (Done ∷ replies) new h =
+    (h.0, makes_less (λ _. known) _ (Parity shape n) shape before h.0 h.1, history_less (λ _. known) _ h.0 events replies new h.2)
 history_told known before events replies new h = absurd h
 
 -- ---- counts
