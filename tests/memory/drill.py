@@ -72,7 +72,7 @@ class Drill:
         folder = os.path.join(self.base, "run")
         shutil.copytree(start, folder)
         with open(self.counter, "wb") as file:
-            file.write(bytes(8))
+            file.write(bytes(24))
         environment = {**os.environ, "LD_PRELOAD": self.shim, "REFUSE_COUNT": self.counter, "REFUSE_AT": str(refused)}
         text = "".join(line + "\n" for line in lines).encode()
         try:

@@ -1,5 +1,6 @@
 #!/usr/bin/env bash
-# Refuses each allocation of the built program in turn, and sees how it ends: tests/memory/run.sh [PROGRAM] [--from N] [--to N].
+# Sees how much the built program holds of an image at once, refuses each of its allocations in turn, and sees how it ends:
+# tests/memory/run.sh [PROGRAM] [--from N] [--to N].
 # Needs gcc, for the shim that counts and refuses, and nm. The status is 1 where a run ended otherwise than it must.
 set -eu
 here=$(cd "$(dirname "$0")" && pwd)
@@ -13,4 +14,5 @@ nm -D "$program" | grep -q ' U malloc' || { echo "the program doesn't take its m
 folder=$(mktemp -d)
 trap 'rm -rf "$folder"' EXIT
 gcc -O2 -Wall -Wextra -shared -fPIC -o "$folder/refuse.so" "$here/refuse.c"
+python3 "$here/images.py" "$program" "$folder/refuse.so"
 python3 "$here/drill.py" "$program" "$folder/refuse.so" "$@"

@@ -4,12 +4,8 @@ use Rattle.std.specs.Prelude.{codes, Option, Some, None, Result, OnOk, OnErr}
 use Rattle.std.specs.Fmt.{decimal}
 use Rattle.std.specs.List.{concat}
 use Rattle.std.proofs.lemmas.List.{append-nil}
-use Rattle.dg_io.specs.SinkCalls.{LeavesSink}
 use Rattle.dg_io.specs.Told.{Told, Took, TookPart}
-use Rattle.dg_io.specs.declared.outside.Sink.{Ghosts}
-use Rattle.dg_model.specs.declared.replies.Reply.{Reply}
-use Rattle.dg_model.specs.declared.replies.Reply.TheVariants.{Copied, HomeAt, Regrouped, Tended}
-use Rattle.dg_text.specs.LineCalls.{calls_of}
+use Rattle.dg_model.specs.declared.replies.Reply.TheVariants.{HomeAt}
 use Rattle.dg_text.specs.Replies.{file_text, reply_line}
 use Rattle.dg_text.specs.Listings.{front_in, line_in, listing_text}
 use Rattle.dg_text.specs.declared.listings.Form.{Form}
@@ -27,27 +23,10 @@ pub took_part_as : {T E : Type 0} (result : Result T E) (line text : List ℕ) (
     → OnErr result (Told (TookPart line) a b) → OnErr result (Told (TookPart text) a b)
 took_part_as result line text a b is h = subst (λ (l : List ℕ). OnErr result (Told (TookPart l) a b)) is h
 
--- what a reply was written by is what the same reply was written by
-pub calls_for : {K : Type 0} (sink : Ghosts K) (one other : Reply) (a b : K) → one ≡ other → LeavesSink sink.whole sink.calls (calls_of one) (length (reply_line one)) a b
-    → LeavesSink sink.whole sink.calls (calls_of other) (length (reply_line other)) a b
-calls_for sink one other a b is calls = subst (λ (r : Reply). LeavesSink sink.whole sink.calls (calls_of r) (length (reply_line r)) a b) is calls
-
 -- two numbers between words, and the end of the line
-two_numbers : (n m : ℕ) (between : List ℕ) → decimal n ++ (between ++ (decimal m ++ codes "\n")) ≡ (decimal n ++ (between ++ decimal m)) ++ codes "\n"
+pub two_numbers : (n m : ℕ) (between : List ℕ) → decimal n ++ (between ++ (decimal m ++ codes "\n")) ≡ (decimal n ++ (between ++ decimal m)) ++ codes "\n"
 two_numbers n m between =
     ap (λ (l : List ℕ). decimal n ++ l) (sym (append_assoc between (decimal m) (codes "\n"))) ∙ sym (append_assoc (decimal n) (between ++ decimal m) (codes "\n"))
-
-pub copied_line : (reply : Reply) (n m : ℕ) → reply ≡ Copied n m
-    → codes "copied " ++ (decimal n ++ (codes " " ++ (decimal m ++ codes "\n"))) ≡ reply_line reply
-copied_line reply n m is = ap (λ (l : List ℕ). codes "copied " ++ l) (two_numbers n m (codes " ")) ∙ ap reply_line (sym is)
-
-pub tended_line : (reply : Reply) (n m : ℕ) → reply ≡ Tended n m
-    → codes "tended " ++ (decimal n ++ (codes " " ++ (decimal m ++ codes "\n"))) ≡ reply_line reply
-tended_line reply n m is = ap (λ (l : List ℕ). codes "tended " ++ l) (two_numbers n m (codes " ")) ∙ ap reply_line (sym is)
-
-pub regrouped_line : (reply : Reply) (n m : ℕ) → reply ≡ Regrouped n m
-    → codes "regrouped " ++ (decimal n ++ (codes " " ++ (decimal m ++ codes "\n"))) ≡ reply_line reply
-regrouped_line reply n m is = ap (λ (l : List ℕ). codes "regrouped " ++ l) (two_numbers n m (codes " ")) ∙ ap reply_line (sym is)
 
 pub home_line : (s : ℕ) (copy : Option ℕ) → copy ≡ None → codes "home " ++ (decimal s ++ codes "\n") ≡ reply_line (HomeAt s copy)
 home_line s copy is =

@@ -2,12 +2,13 @@ use Rattle.std.proofs.Common.{◌≡◌, ◌≢◌, ◌⊎◌, ◌∷◌, ◌∙
 use Rattle.std.specs.Prelude.{All, Contains, IsTrue, Option}
 use Rattle.std.specs.Option.{option_copied}
 use Rattle.dg_model.specs.declared.shapes.Shape.{Shape}
-use Rattle.dg_text.specs.Refusals.{Begins, IsNumberWord, IsOutOfOrder, count_of, word_of, words, words_behind}
+use Rattle.dg_text.specs.Refusals.{Begins, IsNumberWord, IsOutOfOrder, count_of, numbers_of, word_of, words, words_behind}
 use Rattle.dg_text.specs.declared.kinds.EventKind.{EventKind}
 use Rattle.dg_text.specs.declared.kinds.EventKind.TheVariants.{Array}
 use Rattle.dg_text.proofs.Decisions.{is_kind, wrong_form}
 use Rattle.dg_text.proofs.Reasons.{IsFormed, by_order, by_form, by_number, left_limits, left_hex, left_path}
 use Rattle.dg_text.proofs.lines.refusal_of.Goals as goal
+use Rattle.dg_text.proofs.lines.refusal_of.Goals.{After-tail}
 
 -- the line begins with this event's first word
 abbrev begins : (line first : List ℕ) (later : List (List ℕ)) (kind : EventKind) → words line ≡ first ∷ later → first ≡ word_of kind → Begins line
@@ -50,35 +51,31 @@ returns-then-not-begins_with_numbers c =
     let wrong = fails (All IsNumberWord (take c.numbers.result later)) c.begins_with_numbers.result c.begins_with_numbers.ensures.1 c.if-not-begins_with_numbers.true in
     by_number shape line b form (subst (λ n. All IsNumberWord (take n later) → ⊥) c.numbers.ensures wrong)
 
+-- ---- where only what stands behind the numbers can be wrong
+
+abbrev start : (c : After-tail) → Begins c.args.line.now
+start c = begins c.args.line.now c.cut_word.result.0.now (words_behind (option_copied c.cut_word.result.1)) c.in-Some.kind c.cut_word.ensures.words (rw c.in-Some.is at c.kind_with.ensures.found)
+
+form : (c : After-tail) → IsFormed (option_copied c.args.shape) c.args.line.now (start c)
+form c =
+    formed (option_copied c.args.shape) c.args.line.now (start c) c.is_out_of_order.result c.has_words.result c.words.result c.is_out_of_order.ensures.1 c.if-is_out_of_order.false c.words.ensures
+    c.has_words.ensures.0 c.if-not-has_words.false
+
+numbers : (c : After-tail) → All IsNumberWord (take (numbers_of c.in-Some.kind) (words_behind (option_copied c.cut_word.result.1)))
+numbers c =
+    subst (λ n. All IsNumberWord (take n (words_behind (option_copied c.cut_word.result.1)))) c.numbers.ensures (c.begins_with_numbers.ensures.0 c.if-not-begins_with_numbers.false)
+
 pub returns-in-Nothing : goal.returns-in-Nothing
 returns-in-Nothing c =
-    let shape = option_copied c.args.shape in
-    let line = c.args.line.now in
-    let later = words_behind (option_copied c.cut_word.result.1) in
-    let b = begins line c.cut_word.result.0.now later c.in-Some.kind c.cut_word.ensures.words (rw c.in-Some.is at c.kind_with.ensures.found) in
-    let form = formed shape line b c.is_out_of_order.result c.has_words.result c.words.result c.is_out_of_order.ensures.1 c.if-is_out_of_order.false c.words.ensures
-    c.has_words.ensures.0 c.if-not-has_words.false in
-    let numbers = subst (λ n. All IsNumberWord (take n later)) c.numbers.ensures (c.begins_with_numbers.ensures.0 c.if-not-begins_with_numbers.false) in
-    left_limits shape line b form numbers c.requires (sym c.tail.ensures ∙ c.in-Nothing.is) (is_kind c.in-Some.kind Array)
+    let l = (goal.at.returns-in-Nothing c).After-tail in
+    left_limits (option_copied c.args.shape) c.args.line.now (start l) (form l) (numbers l) c.requires (sym c.tail.ensures ∙ c.in-Nothing.is) (is_kind c.in-Some.kind Array)
 
 pub returns-in-Bytes : goal.returns-in-Bytes
 returns-in-Bytes c =
-    let shape = option_copied c.args.shape in
-    let line = c.args.line.now in
-    let later = words_behind (option_copied c.cut_word.result.1) in
-    let b = begins line c.cut_word.result.0.now later c.in-Some.kind c.cut_word.ensures.words (rw c.in-Some.is at c.kind_with.ensures.found) in
-    let form = formed shape line b c.is_out_of_order.result c.has_words.result c.words.result c.is_out_of_order.ensures.1 c.if-is_out_of_order.false c.words.ensures
-    c.has_words.ensures.0 c.if-not-has_words.false in
-    let numbers = subst (λ n. All IsNumberWord (take n later)) c.numbers.ensures (c.begins_with_numbers.ensures.0 c.if-not-begins_with_numbers.false) in
-    left_hex shape line b form numbers c.requires (sym c.tail.ensures ∙ c.in-Bytes.is)
+    let l = (goal.at.returns-in-Bytes c).After-tail in
+    left_hex (option_copied c.args.shape) c.args.line.now (start l) (form l) (numbers l) c.requires (sym c.tail.ensures ∙ c.in-Bytes.is)
 
 pub returns-in-Path : goal.returns-in-Path
 returns-in-Path c =
-    let shape = option_copied c.args.shape in
-    let line = c.args.line.now in
-    let later = words_behind (option_copied c.cut_word.result.1) in
-    let b = begins line c.cut_word.result.0.now later c.in-Some.kind c.cut_word.ensures.words (rw c.in-Some.is at c.kind_with.ensures.found) in
-    let form = formed shape line b c.is_out_of_order.result c.has_words.result c.words.result c.is_out_of_order.ensures.1 c.if-is_out_of_order.false c.words.ensures
-    c.has_words.ensures.0 c.if-not-has_words.false in
-    let numbers = subst (λ n. All IsNumberWord (take n later)) c.numbers.ensures (c.begins_with_numbers.ensures.0 c.if-not-begins_with_numbers.false) in
-    left_path shape line b form numbers c.requires (sym c.tail.ensures ∙ c.in-Path.is)
+    let l = (goal.at.returns-in-Path c).After-tail in
+    left_path (option_copied c.args.shape) c.args.line.now (start l) (form l) (numbers l) c.requires (sym c.tail.ensures ∙ c.in-Path.is)
