@@ -174,7 +174,8 @@ fn the_last_commit_comes_back(rt: HostRuntime) -> Result<(), Fail> {
     Ok(())
 }
 
-// A commit makes three calls on each of four members before it is told, and a member falls by each of them.
+// A commit makes four calls on each of four members, the last of which is its committed header, and a member falls by each of them. One committed
+// header is enough: where all behind that of the second commit fail, both are told. So the last two calls aren't come to.
 #[test]
 fn each_call_of_two_commits(rt: HostRuntime) -> Result<(), Fail> {
     let alloc = rt.alloc();
@@ -186,7 +187,7 @@ fn each_call_of_two_commits(rt: HostRuntime) -> Result<(), Fail> {
         let ((told, _fell), byte) = keep_and_open(alloc, 2, call, 400)?;
         assert!(rt; byte.unwrap_or(0) == told || byte == Some(told.saturating_add(1)));
         if told == 2 {
-            assert_eq!(rt; fallen, 24);
+            assert_eq!(rt; fallen, 30);
             return Ok(());
         }
     }
