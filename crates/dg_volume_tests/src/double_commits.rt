@@ -2,9 +2,9 @@
 // back, also where one call fails, or all from one on.
 #![tactic(auto, using(crate::proofs::RoomLemmas::stays_roomy, crate::proofs::RoomLemmas::committed_roomy))]
 
-ghost use Rattle.std.specs.Prelude.{IfOk};
+ghost use Rattle.std.specs.Prelude.{IfOk, IfSome};
 ghost use Rattle.dg_stop.specs.StopRacks.{stop_room, stop_words};
-ghost use Rattle.dg_volume.specs.Volumes.{any_phase};
+ghost use Rattle.dg_volume.specs.Volumes.{IsWell, any_phase};
 ghost use Rattle.dg_volume_tests.specs.Rooms.{HasRoom};
 
 use crate::even_blocks::{read_even, write_even};
@@ -123,16 +123,28 @@ fn keep_over<R: Rack + Drop>(alloc: Global, rack: R, times: u8) -> Result<(u8, u
     keep_times(alloc, &mut volume, times)
 }
 
-/// The byte of block 3 of an array that is opened with what its rack keeps, if there is one.
+/// The array that is opened with what its rack keeps, if there is one.
+fn opened<R: Checkpoint + Drop>(
+    alloc: Global,
+    rack: R,
+    beside: &[u8],
+) -> Result<Option<Volume<AnyPhase, R>>, Fail>
+    ensures { IfOk result (λ it. IfSome it (IsWell any_phase R.Rack)) }
+{
+    let OpenAnswer::Opened(volume, _hot) = open_kept(alloc, rack, beside)? else {
+        return Ok(None);
+    };
+    Ok(Some(volume))
+}
+
+/// The byte of its block 3.
 fn opened_byte<R: Checkpoint + Drop>(
     alloc: Global,
     rack: R,
     beside: &[u8],
 ) -> Result<Option<u8>, Fail> {
-    let mut volume = match open_kept(alloc, rack, beside)? {
-        OpenAnswer::Opened(volume, _hot) => volume,
-        OpenAnswer::NoState(_) => return Ok(None),
-        OpenAnswer::Unclean(_) => return Err("unclean".into()),
+    let Some(mut volume) = opened(alloc, rack, beside)? else {
+        return Ok(None);
     };
     match read_even(&mut volume, 3)? {
         Some(byte) => Ok(Some(byte)),
