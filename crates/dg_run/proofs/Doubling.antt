@@ -297,9 +297,9 @@ module _ {R : Type 0} (rack : Ghosts R) (none : (s : R) → rack.made s [] s) (b
     rises_with old new event reply in_use tied told h p now rose =
         elim (went_tied event new.state.boundaries old.rack new.rack h.went) [
           | inl goes ↦ inl (goes.tied p (told p (number_low new.state (p / 2) h.in_use now)) (
-            let was = (step_in_use K old.state event reply new.state in_use h.step).was (p / 2) now in
-            omega (arith, rose, faults_of old.state (stop_counts rack old.rack) p tied was, faults_of new.state (stop_counts rack new.rack) p h.tied now)
-          ))
+              let was = (step_in_use K old.state event reply new.state in_use h.step).was (p / 2) now in
+              omega (arith, rose, faults_of old.state (stop_counts rack old.rack) p tied was, faults_of new.state (stop_counts rack new.rack) p h.tied now)
+              ))
           | inr long ↦ inr long
         ]
 

@@ -59,7 +59,7 @@ module _ {R : Type 0} (rack : Ghosts R) (none : (s : R) → rack.made s [] s) (b
       let known : TellsLine (stop_words rack) b → WasHeld (running rack) origin → WasHeld (running rack) (told_in h.out.mid origin) =
       λ tells held. (held, told_mid (stop_words rack) (stop_none rack none) (stop_both rack both) (stop_after rack law) a b ready goes h.out h.live_is tells) in
       let step = step_less (λ (k : KnownBy (WasHeld (running rack) origin) (stop_words rack) b).
-          (told_volume (stop_words rack) (stop_none rack none) (stop_both rack both) (stop_after rack law) b on.on.ready k.0, known k.0 k.1)) state Regroup (RegroupedReply r c) one.0 one.2 in
+      (told_volume (stop_words rack) (stop_none rack none) (stop_both rack both) (stop_after rack law) b on.on.ready k.0, known k.0 k.1)) state Regroup (RegroupedReply r c) one.0 one.2 in
       record {
         after = told_in h.out.mid origin;
         next = one.0;

@@ -18,8 +18,8 @@ use crate::lost_files::serve_lost;
 use crate::pendings::serve_pending;
 use crate::regroups::serve_regroup;
 use crate::replies::{
-    audit_reply, checkpoint_reply, diffuse_reply, fail_reply, home_reply, rebuild_reply, replace_reply,
-    settle_reply, tend_reply, who_reply, write_reply,
+    audit_reply, checkpoint_reply, diffuse_reply, fail_reply, home_reply, rebuild_reply,
+    replace_reply, settle_reply, tend_reply, who_reply, write_reply,
 };
 use crate::trees::serve_tree;
 use dg_io::{Checkpoint, Rack, Sink};
