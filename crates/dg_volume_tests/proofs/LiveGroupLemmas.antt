@@ -1,5 +1,5 @@
 -- What calls leave of volumes over the boundaries in use of racks of groups of disks, also calls that take lost boundaries out of use.
-use Rattle.std.proofs.Common.{◌≡◌, ◌≢◌, ◌∙◌, ◌≤◌, ◌<◌, ◌+◌, ◌-◌, ◌*◌, ◌/◌, ◌%◌, ◌==◌, ◌++◌, ◌∷◌, ℕ, zero, suc, Bool, true, false, cond, All, List, [], ap, arith, get_or, length, length-append, nat_lt, refl, subst, sym}
+use Rattle.std.proofs.Common.{◌≡◌, ◌∙◌, ◌≤◌, ◌<◌, ◌+◌, ◌-◌, ◌*◌, ◌/◌, ◌%◌, ◌==◌, ◌++◌, ◌∷◌, ℕ, zero, suc, Bool, true, false, cond, List, [], ap, arith, get_or, length, length-append, nat_lt, refl, subst, sym}
 use Rattle.std.specs.Global.{Vec}
 use Rattle.std.specs.Int.{bit_at}
 use Rattle.std.specs.List.{filter, range_with_len}
@@ -39,7 +39,6 @@ use Rattle.dg_volume.specs.declared.regroups.RegroupAnswer.{RegroupAnswer}
 use Rattle.dg_volume.specs.declared.regroups.RegroupAnswer.TheVariants.{Regrouped, TooFew, Whole}
 use Rattle.dg_volume.specs.declared.volumes.Volume.{Volume}
 use Rattle.dg_volume_tests.specs.Grouped.{IsOfLiveGroups}
-use Rattle.dg_volume_tests.specs.Ready.{IsReady}
 use Rattle.dg_volume_tests.proofs.GroupedLemmas.{new_groups, out_by, second_bytes}
 use Rattle.dg_volume_tests.proofs.LiveLemmas.{TellNames, all_ready}
 use Rattle.dg_volume_tests.proofs.ReadyLemmas.{regrouped_ready, stays_ready}

@@ -1,5 +1,5 @@
 -- What calls leave of volumes of which `commit` may be called.
-use Rattle.std.proofs.Common.{◌≡◌, ◌∙◌, ◌≤◌, ◌+◌, ◌*◌, ℕ, List, ap, arith, subst, sym}
+use Rattle.std.proofs.Common.{◌≡◌, ◌∙◌, ◌≤◌, ◌+◌, ◌*◌, ℕ, List, ap, subst, sym}
 use Rattle.std.specs.Prelude.{IfSome, Option, Some}
 use Rattle.dg_io.specs.Makes.{Makes}
 use Rattle.dg_io.specs.Makes.Makes.{nothing as made_nothing, after as made_after}
