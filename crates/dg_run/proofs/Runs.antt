@@ -1,5 +1,5 @@
 -- Lines are served one after another.
-use Rattle.std.proofs.Common.{◌≡◌, ◌≤◌, ◌+◌, ◌-◌, ◌^◌, ℕ, List, [], ◌∷◌, ◌++◌, length, refl, sym, ◌∙◌, ap, subst, arith, append_assoc, length-append}
+use Rattle.std.proofs.Common.{◌≡◌, ◌≤◌, ◌<◌, ◌+◌, ◌-◌, ◌/◌, ◌^◌, ℕ, List, [], ◌∷◌, ◌++◌, length, refl, sym, ◌∙◌, ap, subst, arith, append_assoc, length-append}
 use Rattle.std.specs.Prelude.{Option, Some}
 use Rattle.std.proofs.lemmas.List.{append-nil}
 use Rattle.std.proofs.lemmas.List.Concat.{flat_map-append}
@@ -10,7 +10,9 @@ use Rattle.dg_regroup.specs.declared.live_racks.LiveRack.{LiveRack}
 use Rattle.dg_model.specs.declared.shapes.Shape.{Shape}
 use Rattle.dg_model.specs.declared.events.Event.{Event}
 use Rattle.dg_model.specs.declared.replies.Reply.{Reply}
+use Rattle.dg_stop.specs.StopCalls.{behind}
 use Rattle.dg_stop.specs.StopRacks.{stop_words}
+use Rattle.dg_stop.specs.Ties.{tells_behind}
 use Rattle.dg_stop.specs.declared.stop_racks.StopRack.{StopRack}
 use Rattle.dg_volume.specs.HeldLaws.{own_still}
 use Rattle.dg_volume.specs.Origins.{Origin, WasHeld}
@@ -23,7 +25,7 @@ use Rattle.dg_text.specs.Replies.{reply_line, output_of}
 use Rattle.dg_text.specs.declared.lines.BadLine.{BadLine}
 use Rattle.dg_run.specs.Events.{IsRefused}
 use Rattle.dg_run.specs.Lines.{BeginsAll, Served, ServedLine, AllServed, ServedTo, Turned, LinesEndAt}
-use Rattle.dg_run.specs.Histories.{KnownBy, Leads, RunsBefore, RunsTo, TellsLine, VolumeRunsTo, standing_of, boundaries_of, Running, running}
+use Rattle.dg_run.specs.Histories.{KnownBy, Leads, RunsBefore, RunsTo, TellsLine, VolumeRunsTo, standing_of, below_of, boundaries_of, Running, running}
 use Rattle.dg_run.specs.Steps.{GoesOn, IsSound, StandsIn}
 use Rattle.dg_run.specs.declared.lines.Turn.{Turn}
 use Rattle.dg_run.specs.declared.lines.Turn.TheVariants.{Served as turn_served, End as turn_end, Refused as turn_refused}
@@ -82,20 +84,28 @@ module _ {R : Type 0} (rack : Ghosts R) where
   pub no_runs : (a : Running R) → RunsTo rack a [] [] a
   no_runs a origin state st = record { after = origin; next = state; stands = st; known = λ tells held. held; course = refl }
 
+  -- what the rack of its boundaries tells of the first line's members that of the run tells
+  told_behind_line : (b : Running R) (state : State) → state.boundaries ≡ boundaries_of b → TellsLine (stop_words rack) b → (q : ℕ) → q / 2 < state.boundaries
+      → rack.tells (behind (below_of b)) q
+  told_behind_line b state line tells q low = tells_behind rack (below_of b) q (tells q (subst (λ (n : ℕ). q / 2 < n) line low))
+
   -- what the array stands for now isn't told
   pub runs_before : (a b c : Running R) (es : List Event) (rs : List Reply) → RunsTo rack a es rs b → boundaries_of c ≡ boundaries_of b → (TellsLine (stop_words rack) c → TellsLine (stop_words rack) b)
       → RunsBefore rack a es rs c
   runs_before a b c es rs runs same told origin state st =
-      let one = runs origin state st in (
+      let one = runs origin state st in
+      let line : one.next.boundaries ≡ boundaries_of b = ap (λ (s : State). s.boundaries) one.stands.volume.is in (
         standing_of b one.next,
-        ap (λ (s : State). s.boundaries) one.stands.volume.is ∙ sym same,
+        line ∙ sym same,
         course_less rack (λ k. (told k.0, k.1)) (standing_of a state) es rs (standing_of b one.next) one.course,
+        λ tells. told_behind_line b one.next line (told tells),
       )
 
   pub volume_runs_before : (a c : Running R) (es : List Event) (rs : List Reply) → VolumeRunsTo rack a es rs c → RunsBefore rack a es rs c
   volume_runs_before a c es rs runs origin state st =
       let one = runs origin state st in
-      (standing_of c one.next, ap (λ (s : State). s.boundaries) one.stands.is, one.course)
+      let line : one.next.boundaries ≡ boundaries_of c = ap (λ (s : State). s.boundaries) one.stands.is in
+      (standing_of c one.next, line, one.course, told_behind_line c one.next line)
 
   pub output_more : (rs : List Reply) (r : Reply) (x y z : Option (List ℕ)) → Told (Took (output_of rs)) x y → Told (Took (reply_line r)) y z → Told (Took (output_of (rs ++ r ∷ []))) x z
   output_more rs r x y z p q = Told-then _ _ (Took (output_of (rs ++ r ∷ []))) (λ a b c f s.

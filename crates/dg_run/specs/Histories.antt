@@ -122,11 +122,12 @@ abbrev pub VolumeRunsTo : {R : Type 0} → Ghosts R → Running R → List Event
 VolumeRunsTo {R = R} rack old events replies new = (origin : Origin (LiveRack (StopRack R))) (state : State) → StandsIn (running rack) (WasHeld (running rack) origin) old state
     → Leads rack (λ P next. volumes.StandsIn any_phase (running rack) P new.volume next) origin state old new events replies
 
--- the same, but nothing is said of what the array stands for now
+-- The same, but nothing is said of what the array stands for now. What the rack of the run tells now it told then.
 abbrev pub RunsBefore : {R : Type 0} → Ghosts R → Running R → List Event → List Reply → Running R → Type 0
 RunsBefore {R = R} rack old events replies now = (origin : Origin (LiveRack (StopRack R))) (state : State) → StandsIn (running rack) (WasHeld (running rack) origin) old state
     → (next : Standing (StopRack R)) × (next.state.boundaries ≡ boundaries_of now)
     × Course rack (KnownBy (WasHeld (running rack) origin) (stop_words rack) now) (standing_of old state) events replies next
+    × (TellsLine (stop_words rack) now → (q : ℕ) → q / 2 < next.state.boundaries → rack.tells (behind next.rack) q)
 
 -- ---- answers
 
