@@ -34,6 +34,8 @@ pub record DropsDisk (n s j : ℕ) (old new : DiskStates) (answer : DropAnswer) 
 pub record MendsDisk (n s j : ℕ) (old new : DiskStates) (answer : MendAnswer) : Type 0 where
   pub lost : (answer ≡ Lost) ↔ (is_group_lost n new.out s ≡ true)
   pub not_out : (answer ≡ NotOut) ↔ ((is_group_lost n new.out s ≡ false) × (old.out s j ≡ false))
+  -- where it wasn't out, nothing is done
+  pub idle : answer ≡ NotOut → new ≡ old
   pub failed : answer ≡ Failed → Rose (old.faults s j) (new.faults s j)
   pub mended : (stripes : ℕ) → answer ≡ Mended stripes → (old.out s j ≡ true) × (new.out s j ≡ false)
   -- where it wasn't out, it goes out only by a fault of its own

@@ -4,6 +4,7 @@ use Rattle.std.specs.Prelude.{Option, Some, slice_get, nat_le, nat_lt, count_by,
 use Rattle.std.proofs.lemmas.Bool.{cases_eq, cases_Bool, false≢true, and_parts}
 use Rattle.dg_model.specs.Causes.{Rose}
 use Rattle.dg_io.specs.DiskAnswers.{DropsDisk, MendsDisk, OneDisk, count_upto, is_group_lost}
+use Rattle.dg_io.specs.Disks.{DiskStates}
 use Rattle.dg_io.specs.Told.{Told, IsSame}
 use Rattle.dg_io.specs.declared.disks.DropAnswer.{DropAnswer}
 use Rattle.dg_io.specs.declared.disks.DropAnswer.TheVariants.{Plain, Already, Dropped}
@@ -133,6 +134,18 @@ module _ {S : Type 0} (rack : Ghosts S) (s j : ℕ) (old new : List Group) (a b 
       (sym (ap (λ (o : Option Group). faults_of (rack.counts now) o j) sets.is ∙ faults-alike a b (rack.counts now) j turns.number turns.disks
       ∙ faults-in a (rack.counts now) j (lt-true j a.disks lt))) rose)
 
+  -- a group that is as it was leaves the disks as they were
+  states-same : (b ≡ a) × (now ≡ before) → states_in rack new now ≡ states_in rack old before
+  states-same still = λ i. record {
+    out = λ t k. out_of (group-same t i) k;
+    faults = λ t k. faults_of (rack.counts (still.1 i)) (group-same t i) k;
+  } where
+    group-same : (t : ℕ) → slice_get new t ≡ slice_get old t
+    group-same t = elim (cases_eq t s) [
+      | inl e ↦ ap (slice_get new) e ∙ sets.is ∙ ap Some still.0 ∙ sym sets.was ∙ ap (slice_get old) (sym e)
+      | inr ne ↦ sets.others t ne
+    ]
+
   pub drops-disk : (answer : DropAnswer) → j < a.disks → is_out b j ≡ true → ((answer ≡ Already) ↔ (is_out a j ≡ true)) → ((lost : Bool) → answer ≡ Dropped lost → lost ≡ is_lost b)
       → DropsDisk a.disks s j (states_in rack old before) (states_in rack new now) answer
   drops-disk answer lt out already lost = record {
@@ -143,9 +156,9 @@ module _ {S : Type 0} (rack : Ghosts S) (s j : ℕ) (old new : List Group) (a b 
 
   pub mends-disk : (answer : MendAnswer) → j < a.disks → ((answer ≡ Lost) ↔ (is_lost b ≡ true)) → ((answer ≡ NotOut) ↔ ((is_lost b ≡ false) × (is_out a j ≡ false)))
       → (answer ≡ Failed → Rose ((rack.counts before).faults (disk_number a.number j)) ((rack.counts now).faults (disk_number a.number j)))
-      → ((c : ℕ) → answer ≡ Mended c → (is_out a j ≡ true) × (is_out b j ≡ false)) → (is_out a j ≡ false → is_out b j ≡ false)
+      → ((c : ℕ) → answer ≡ Mended c → (is_out a j ≡ true) × (is_out b j ≡ false)) → (is_out a j ≡ false → (b ≡ a) × (now ≡ before))
       → MendsDisk a.disks s j (states_in rack old before) (states_in rack new now) answer
-  mends-disk answer lt lost not_out failed mended stays = record {
+  mends-disk answer lt lost not_out failed mended still = record {
     lost = (λ h. lost-at ∙ lost.0 h, λ h. lost.1 (sym lost-at ∙ h));
     not_out = (
       λ h. let is = not_out.0 h in (lost-at ∙ is.0, out-was lt ∙ is.1),
@@ -153,7 +166,8 @@ module _ {S : Type 0} (rack : Ghosts S) (s j : ℕ) (old new : List Group) (a b 
     );
     failed = λ h. rose-at lt (failed h);
     mended = λ c h. let is = mended c h in (out-was lt ∙ is.0, out-is lt ∙ is.1);
-    cause = λ in0 out. absurd (false≢true (sym (out-is lt ∙ stays (sym (out-was lt) ∙ in0)) ∙ out));
+    idle = λ h. states-same (still (not_out.0 h).1);
+    cause = λ in0 out. absurd (false≢true (sym in0 ∙ sym (ap (λ (disks : DiskStates). disks.out s j) (states-same (still (sym (out-was lt) ∙ in0)))) ∙ out));
   }
 
 -- ---- what the calls on a disk say of the group

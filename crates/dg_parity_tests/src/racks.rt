@@ -1,7 +1,7 @@
 // Racks of four groups of three disks over a rack in memory.
 ghost use Rattle.std.specs.Prelude.{◌≡◌, ◌<◌, ◌*◌, ℕ, false, true, length, IfOk, IfSome, IsSome};
 ghost use Rattle.dg_parity.specs.ArrayCalls.{MendsBehind, RackGoesOn};
-ghost use Rattle.dg_parity.specs.ParityRacks.{IsNoted, parity_bytes, parity_stands};
+ghost use Rattle.dg_parity.specs.ParityRacks.{IsNoted, parity_bytes, parity_disks, parity_stands};
 ghost use Rattle.dg_parity_tests.specs.Shapes.{HasShape};
 
 use dg_io::{Disks, DropAnswer, MemRack, MendAnswer, Rack};
@@ -114,13 +114,14 @@ fn drops<R: Rack>(rack: &mut ParityRack<R>, s: u8, j: u8) -> DropAnswer
     rack.drop_disk(s, j)
 }
 
-// A disk comes back, in a bounded number of calls.
+// A disk comes back, in a bounded number of calls. Where it wasn't out, the disks are as they were.
 fn mends<R: Rack>(rack: &mut ParityRack<R>, s: u8, j: u8) -> MendAnswer
     requires shape { HasShape 4 3 rack.old }
     requires group { s < 4 }
     requires disk { j < 3 }
     ensures shape { HasShape 4 3 rack.new }
     ensures noted { (c : ℕ) → result ≡ MendAnswer.Mended c → IsNoted rack.new (2 * s) }
+    ensures idle { result ≡ MendAnswer.NotOut → parity_disks R.Rack rack.new ≡ parity_disks R.Rack rack.old }
     ensures goes_on { RackGoesOn R.Rack rack.old rack.new }
     ensures calls { MendsBehind R.Rack rack.old rack.new s }
 {
@@ -137,6 +138,7 @@ fn a_member_without_a_disk(rt: HostRuntime) -> Result<(), Fail> {
     assert!(rt; long(&mut rack, 6) == Some(SIZE));
     buf[0] = 0xaa;
     assert!(rt; writes(&mut rack, 6, 512, &buf));
+    assert!(rt; mends(&mut rack, 3, 2) == MendAnswer::NotOut);
     assert!(rt; drops(&mut rack, 3, 2) == DropAnswer::Dropped(false));
     assert!(rt; reads(&mut rack, 6, 512, &mut got));
     assert!(rt; got == buf);

@@ -132,6 +132,7 @@ mends_through live (Some n) s j answer old new within mends = record {
   lost = subst (λ (p : ℕ → Bool). (answer ≡ Lost) ↔ (is_group_lost n (λ t. p) s ≡ true)) (sym (out_at new)) mends.lost;
   not_out = subst (λ (p : ℕ → Bool). (answer ≡ NotOut) ↔ ((is_group_lost n (λ t. p) s ≡ false) × (by_live live old).out s j ≡ false)) (sym (out_at new))
       (subst (λ (p : ℕ → Bool). (answer ≡ NotOut) ↔ ((is_group_lost n new.out (boundary_at live s) ≡ false) × p j ≡ false)) (sym (out_at old)) mends.not_out);
+  idle = λ is. ap (by_live live) (mends.idle is);
   failed = λ is. rw there (mends.failed is);
   mended = λ stripes is. rw there (mends.mended stripes is);
   cause = rw there mends.cause;

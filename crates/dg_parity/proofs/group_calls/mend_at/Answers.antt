@@ -5,7 +5,7 @@ use Rattle.dg_parity.proofs.DiskLemmas.{mend-told, mends-disk, steps-on}
 use Rattle.std.specs.Prelude.{Option}
 use Rattle.dg_parity.specs.ArrayCalls.{mends_of}
 use Rattle.dg_parity.specs.Arrays.{is_noted, states_in, width_at, width_of}
-use Rattle.dg_parity.specs.Groups.{is_out, MostCalls}
+use Rattle.dg_parity.specs.Groups.{MostCalls}
 use Rattle.dg_parity.specs.declared.groups.Group.{Group}
 use Rattle.dg_parity.proofs.GoesOnLemmas.{called-at, goes-one}
 use Rattle.dg_parity.proofs.group_calls.mend_at.Goals as goal
@@ -37,7 +37,7 @@ returns-in-Some-clause-answer g c =
     let lt : c.args.j < a.disks = subst (λ (n : ℕ). c.args.j < n) width c.requires.disk in
     subst (λ (n : ℕ). MendsDisk n c.args.s c.args.j (states_in g.R.Rack old c.args.rack.now) (states_in g.R.Rack (slice_set old c.args.s b) c.mend.new.rack) c.mend.result) (sym width)
     (mends-disk g.R.Rack c.args.s c.args.j old (slice_set old c.args.s b) a b c.args.rack.now c.mend.new.rack c.requires.kept sets turns c.mend.result lt c.mend.ensures.lost c.mend.ensures.not_out c.mend.ensures.failed
-    (λ n h. (c.mend.ensures.was_out n h, (c.mend.ensures.mended n h).0)) (λ in0. ap (λ (k : Group). is_out k c.args.j) (c.mend.ensures.idle (inr in0)).0 ∙ in0))
+    (λ n h. (c.mend.ensures.was_out n h, (c.mend.ensures.mended n h).0)) (λ in0. c.mend.ensures.idle (inr in0)))
 
 pub returns-in-Some-clause-goes_on : goal.returns-in-Some-clause-goes_on
 returns-in-Some-clause-goes_on g c =
