@@ -26,6 +26,7 @@ mod OnePlan
 mod OneReading
 mod OneRebuild
 mod OneRefill
+mod OneRegroup
 mod OneRun
 mod OneStep
 mod OneVerdict
@@ -47,7 +48,6 @@ mod SavedAgain
 mod SavedReads
 mod Seated
 mod Seen
-mod StayWhole
 pub mod StepViews
 mod TakenAway
 mod ToldLostFiles

@@ -1,17 +1,18 @@
 -- The number of the next save after a step.
-use Rattle.std.proofs.Common.{◌≡◌, ◌∙◌, ◌+◌, ℕ, List, ◌∷◌, Option, Some, None, refl, ap, sym, subst, inl, inr, false}
+use Rattle.std.proofs.Common.{◌≡◌, ◌∙◌, ◌+◌, ℕ, List, Option, Some, None, refl, ap, sym, subst, inl, inr, false}
 use Rattle.std.specs.Option.{option_map}
 use Rattle.dg_model.specs.Changes.{Passes, Stays}
+use Rattle.dg_model.specs.Regroups.{label_left, left_in, without_lost}
 use Rattle.dg_model.specs.Seals.{LastLabel, forgotten, next_sequence}
 use Rattle.dg_model.specs.States.{State}
 use Rattle.dg_model.specs.Steps.{Step}
 use Rattle.dg_model.specs.declared.events.Event.{Event}
-use Rattle.dg_model.specs.declared.events.Event.TheVariants.{Write, Read, Fail, Replace, Rebuild, Settle, Tend, Diffuse, Who, Pending, Cat, Ls, Tree, Home, Save, LostFiles, Audit, DropDisk, MendDisk}
+use Rattle.dg_model.specs.declared.events.Event.TheVariants.{Write, Read, Fail, Replace, Rebuild, Settle, Tend, Diffuse, Who, Pending, Cat, Ls, Tree, Home, Save, Regroup, LostFiles, Audit, DropDisk, MendDisk}
 use Rattle.dg_model.specs.declared.replies.Reply.{Reply}
-use Rattle.dg_model.specs.declared.replies.Reply.TheVariants.{Done, Range, Degraded, Unavailable, Already, Lost, NotOut, Failed, NotFilling, Copied, Settled, Malformed, NoSpace, Tended, Diffused, NotSettled, Verdict, Blocks, Data, Given, Cut, Listed, ListedCut, Nodes, NodesCut, Refused, HomeAt, NoHome, Saved, NotSaved, LostFiles as LostFilesReply, LostFilesCut, Audited, NotParity}
+use Rattle.dg_model.specs.declared.replies.Reply.TheVariants.{Done, Range, Degraded, Unavailable, Already, Lost, NotOut, Failed, NotFilling, Copied, Settled, Malformed, NoSpace, Tended, Diffused, NotSettled, Verdict, Blocks, Data, Given, Cut, Listed, ListedCut, Nodes, NodesCut, Refused, HomeAt, NoHome, Saved, NotSaved, Whole, TooFew, Regrouped, LostFiles as LostFilesReply, LostFilesCut, Audited, NotParity}
 use Rattle.dg_uses.proofs.Seen.{next_number_is, number_kept}
 
--- the events that a replay serves behind its first one, but for those that take boundaries out of use. One on a single disk has one reply
+-- the events that a replay serves behind its first one. One on a single disk has one reply
 abbrev pub IsServed : Event → Reply → Type 0
 IsServed (Write b bytes) reply = Unit {0}
 IsServed (Read b) reply = Unit {0}
@@ -28,16 +29,12 @@ IsServed (Ls path) reply = Unit {0}
 IsServed Tree reply = Unit {0}
 IsServed (Home path) reply = Unit {0}
 IsServed Save reply = Unit {0}
+IsServed Regroup reply = Unit {0}
 IsServed LostFiles reply = Unit {0}
 IsServed Audit reply = Unit {0}
 IsServed (DropDisk s j) reply = reply ≡ NotParity
 IsServed (MendDisk s j) reply = reply ≡ NotParity
 IsServed event reply = ⊥
-
--- all of them are
-abbrev pub AllServed : List Event → List Reply → Type 0
-AllServed (event ∷ events) (reply ∷ replies) = IsServed event reply × AllServed events replies
-AllServed events replies = Unit {0}
 
 -- a save that is done makes it one more
 abbrev pub next_after : Reply → ℕ → ℕ
@@ -56,6 +53,10 @@ stayed old new h = passed old new h.goes.passes
 forgotten_is : (label : Option LastLabel) → next_sequence (option_map forgotten label) ≡ next_sequence label
 forgotten_is None = refl
 forgotten_is (Some last) = refl
+
+left_is : (left : List ℕ) (label : Option LastLabel) → next_sequence (option_map (label_left left) label) ≡ next_sequence label
+left_is left None = refl
+left_is left (Some last) = refl
 
 module _ (Known : Type 0) (old new : State) where
   write_number : (b : ℕ) (bytes : List ℕ) (reply : Reply) → Step Known old (Write b bytes) reply new → next_sequence new.label ≡ next_after reply (next_sequence old.label)
@@ -163,6 +164,13 @@ module _ (Known : Type 0) (old new : State) where
   save_number NotSaved h = same_label old new h.1
   save_number reply h = absurd h
 
+  regroup_number : (reply : Reply) → Step Known old Regroup reply new → next_sequence new.label ≡ next_after reply (next_sequence old.label)
+  regroup_number Whole h = same_label old new h.1
+  regroup_number TooFew h = stayed old new h.3
+  regroup_number (Regrouped r c) h =
+      passed (without_lost h.1.mid h.1.counts) new h.1.goes.passes ∙ left_is (left_in h.1.mid) h.1.mid.label ∙ stayed old h.1.mid h.1.opened
+  regroup_number reply h = absurd h
+
   audit_number : (reply : Reply) → Step Known old Audit reply new → next_sequence new.label ≡ next_after reply (next_sequence old.label)
   audit_number (Audited findings) h = stayed old new h.1
   audit_number Unavailable h = stayed old new h.1
@@ -202,6 +210,7 @@ module _ (Known : Type 0) (old new : State) where
   step_number Tree reply served h = tree_number reply h
   step_number (Home path) reply served h = home_number path reply h
   step_number Save reply served h = save_number reply h
+  step_number Regroup reply served h = regroup_number reply h
   step_number LostFiles reply served h = lost_number reply h
   step_number Audit reply served h = audit_number reply h
   step_number (DropDisk s j) reply served h = drop_number s j reply served h

@@ -21,7 +21,7 @@ use Rattle.dg_model.specs.declared.replies.Reply.{Reply}
 use Rattle.dg_model.specs.declared.replies.Reply.TheVariants.{Audited, Unavailable}
 use Rattle.dg_promise.specs.Promises.{AreTold}
 use Rattle.dg_uses.proofs.OneList.{one_list}
-use Rattle.dg_uses.proofs.OneStep.{AreOne, IsPlain}
+use Rattle.dg_uses.proofs.OneStep.{AreOne, IsFit}
 use Rattle.dg_uses.proofs.Seen.{Seen, seen_of, state_of, stays_seen}
 
 pub numbers_one : (holds : ℕ → Type 0) (xs ys : List ℕ) → AreAll holds xs → AreAll holds ys → xs ≡ ys
@@ -54,7 +54,7 @@ module _ (l n : ℕ) (v : Volume) where
   pub lines_one : (lines others : List Finding) → TellsFindings l n v lines → TellsFindings l n v others → lines ≡ others
   lines_one lines others h g = h.is ∙ findings_one h.bad g.bad h.unnamed g.unnamed h.unclaimed g.unclaimed h.are g.are ∙ sym g.is
 
-module _ (c : Seen) (ok : IsPlain c) (l k : Option LastLabel) (n m : Counts) (x y : State) (none : NoneRose n.faults x.counts.faults) (never : NoneRose m.faults y.counts.faults) where
+module _ (c : Seen) (ok : IsFit c) (l k : Option LastLabel) (n m : Counts) (x y : State) (none : NoneRose n.faults x.counts.faults) (never : NoneRose m.faults y.counts.faults) where
   -- a block of the structure is gone
   loses_of : (s t : State) → seen_of s ≡ seen_of t → LosesStructure s t.blocks → LosesStructure t t.blocks
   loses_of s t same lost = record {

@@ -15,7 +15,7 @@ use Rattle.dg_model.specs.declared.replies.Reply.{Reply}
 use Rattle.dg_model.specs.declared.replies.Reply.TheVariants.{LostFiles as LostFilesReply, LostFilesCut, NotSettled, Refused, Unavailable}
 use Rattle.dg_promise.specs.Promises.{AreTold}
 use Rattle.dg_uses.proofs.OneReading.{IsOne, differ, one_refusal, one_value, tree}
-use Rattle.dg_uses.proofs.OneStep.{IsPlain}
+use Rattle.dg_uses.proofs.OneStep.{IsFit}
 use Rattle.dg_uses.proofs.ReadOnce.{IsAnswer, answer_is, not_cut_short}
 use Rattle.dg_uses.proofs.Seen.{Seen, seen_of, state_of, stays_seen}
 
@@ -39,7 +39,7 @@ LostIs c (Refused bad) d = (c.phase ≡ Settled) × IsAnswer c (tree c) (Some (E
 LostIs c Unavailable d = (c.phase ≡ Settled) × IsAnswer c (tree c) None × (d ≡ c)
 LostIs c reply d = ⊥
 
-module _ (c : Seen) (ok : IsPlain c) (l : Option LastLabel) (n : Counts) (x : State) (none : NoneRose n.faults x.counts.faults) where
+module _ (c : Seen) (ok : IsFit c) (l : Option LastLabel) (n : Counts) (x : State) (none : NoneRose n.faults x.counts.faults) where
   stays : Stays (state_of c l n) x → seen_of x ≡ c
   stays h = stays_seen c l n x ok.paired none h
 
@@ -51,7 +51,7 @@ module _ (c : Seen) (ok : IsPlain c) (l : Option LastLabel) (n : Counts) (x : St
   lost_is (LostFilesCut lost) h = absurd (not_cut_short c (tree c) l n x (stays h.3) (Ok h.1.0) h.1.1 h.2)
   lost_is r h = absurd h
 
-module _ (c : Seen) (ok : IsPlain c) (d e : Seen) where
+module _ (c : Seen) (ok : IsFit c) (d e : Seen) where
   lists_same : (lost others : List PathOf) → LostIs c (LostFilesReply lost) d → LostIs c (LostFilesReply others) e → lost ≡ others
   lists_same lost others h g =
       let entries : g.1.0 ≡ h.1.0 = one_value c ok d e (tree c) g.1.0 h.1.0 g.1.1 h.1.1 in

@@ -1,9 +1,8 @@
 -- Events that move blocks to their places, and saves: from one state, where no count of faults rises, each has one reply, and leads to one state but
 -- for its counts and its label.
-use Rattle.std.proofs.Common.{◌≡◌, ◌∙◌, ℕ, Bool, true, false, List, length, take, Option, Some, None, refl, sym, ap, subst, inl, inr, arith}
+use Rattle.std.proofs.Common.{◌≡◌, ◌<◌, ◌∙◌, ℕ, Bool, true, false, List, length, take, Option, Some, None, refl, sym, ap, subst, inl, inr, arith}
 use Rattle.std.specs.Prelude.{Result, min}
 use Rattle.std.proofs.lemmas.Bool.{false≢true}
-use Rattle.std.proofs.lemmas.List.FromFn.{length-range_with_len}
 use Rattle.ufs_model.specs.declared.malformations.BadKind.{BadKind}
 use Rattle.dg_model.specs.Causes.{NoneRose}
 use Rattle.dg_model.specs.Changes.{IsCramped, IsLeastLostIn, IsPlan, Saves, Settles, Spreads, Tends, spread_in}
@@ -14,7 +13,7 @@ use Rattle.dg_model.specs.Moves.{missing_in, moved}
 use Rattle.dg_model.specs.Plans.{Plan, plan, targets_of}
 use Rattle.dg_model.specs.Seals.{LastLabel, next_sequence}
 use Rattle.dg_model.specs.States.{Counts, IsLeastLost, State, has_lost}
-use Rattle.dg_model.specs.Steps.{IsReduced, LostNow, Step, WasLost}
+use Rattle.dg_model.specs.Steps.{LostNow, Step, WasLost}
 use Rattle.dg_model.specs.Wants.{AreParents, AreWants, FitWants}
 use Rattle.dg_model.specs.declared.events.Event.TheVariants.{Settle, Tend, Diffuse, Save}
 use Rattle.dg_model.specs.declared.members.MemberState.{MemberState}
@@ -30,7 +29,7 @@ use Rattle.dg_promise.proofs.OrderLaws.{wants_same}
 use Rattle.dg_promise.specs.Promises.{AreTold}
 use Rattle.dg_uses.proofs.OneFinding.{one_malformation}
 use Rattle.dg_uses.proofs.OneParent.{parents_same}
-use Rattle.dg_uses.proofs.OneStep.{AreOne, IsPlain, number_is, stays_x, stays_y}
+use Rattle.dg_uses.proofs.OneStep.{AreOne, IsFit, one_boundary, stays_x, stays_y}
 use Rattle.dg_uses.proofs.OneView.{apart, both, err_same, ok_same}
 use Rattle.dg_uses.proofs.Seen.{Seen, goes_stay, members_stay, seen_of, state_of}
 
@@ -93,14 +92,14 @@ module _ (c : Seen) (l k : Option LastLabel) (n m : Counts) where
 
 -- ---- lost boundaries
 
-module _ (c : Seen) (ok : IsPlain c) where
+module _ (c : Seen) (ok : IsFit c) where
   -- boundary s of the first line is the least one that is lost
   abbrev pub IsLeastAt : ℕ → Type 0
   IsLeastAt s = IsLeastLost c.table.shape c.members (place_in c.live s)
 
   pub least_same : (s t : ℕ) → IsLeastAt s → IsLeastAt t → s ≡ t
   least_same s t a b =
-      sym (number_is c ok s a.within) ∙ one_least_lost c.table.shape c.members (place_in c.live s) (place_in c.live t) a b ∙ number_is c ok t b.within
+      one_boundary c ok s t a.within (one_least_lost c.table.shape c.members (place_in c.live s) (place_in c.live t) a b)
 
   pub least_breaks : (s : ℕ) → IsLeastAt s → has_lost c.table.shape c.members ≡ false → ⊥
   least_breaks s a whole = both (has_lost c.table.shape c.members) (least_lost_is c.table.shape c.members (place_in c.live s) a) whole
@@ -112,6 +111,12 @@ module _ (c : Seen) (ok : IsPlain c) where
       both (has_lost c.table.shape c.members)
       (subst (λ (t : Shape). has_lost t c.members ≡ true) shape (subst (λ (f : ℕ → MemberState). has_lost z.table.shape f ≡ true) members lost)) whole
 
+-- a save that is done, or finds a lost boundary, is one of an array that has all its boundaries in use
+abbrev pub IsSavedWhole : Seen → Reply → Type 0
+IsSavedWhole c (Lost s) = length c.live < c.boundaries → ⊥
+IsSavedWhole c (Saved i) = length c.live < c.boundaries → ⊥
+IsSavedWhole c reply = Unit {0}
+
 -- ---- one event
 
 -- what is seen once blocks were moved by a plan
@@ -121,7 +126,7 @@ moved_by c members limit wants found = record c { members = members; table = mov
 abbrev settled_by : Seen → (ℕ → MemberState) → List (Option Want) → Plan → Seen
 settled_by c members wants found = record (moved_by c members None wants found) { homes = found.homes; phase = Settled }
 
-module _ (c : Seen) (ok : IsPlain c) (l : Option LastLabel) (n : Counts) (x : State) (none : NoneRose n.faults x.counts.faults) (shape : x.table.shape ≡ c.table.shape) where
+module _ (c : Seen) (ok : IsFit c) (l : Option LastLabel) (n : Counts) (x : State) (none : NoneRose n.faults x.counts.faults) (shape : x.table.shape ≡ c.table.shape) where
   was_lost : (s : ℕ) → WasLost (state_of c l n) s x → IsLeastAt c ok s × (seen_of x ≡ c)
   was_lost s h = (h.0, ap seen_of h.1)
 
@@ -165,7 +170,7 @@ module _ (c : Seen) (ok : IsPlain c) (l : Option LastLabel) (n : Counts) (x : St
   spreads_seen count gained h =
       ap seen_of h.rest ∙ ap (λ (f : ℕ → MemberState). record c { members = f; table = x.table; copies = x.copies }) (goes_stay c l n x ok.paired none h.goes)
 
-module _ (c : Seen) (ok : IsPlain c) (l : Option LastLabel) (n : Counts) (x : State) (none : NoneRose n.faults x.counts.faults) (shape : x.table.shape ≡ c.table.shape) where
+module _ (c : Seen) (ok : IsFit c) (l : Option LastLabel) (n : Counts) (x : State) (none : NoneRose n.faults x.counts.faults) (shape : x.table.shape ≡ c.table.shape) where
   save_lost : (s : ℕ) → Step AreTold (state_of c l n) Save (Lost s) x → IsLeastAt c ok s × (seen_of x ≡ c) × ((q : ℕ) → is_good (c.members q) ≡ false)
   save_lost s h =
       let members = saves_members c ok l n x none shape h.1.passes.members in
@@ -181,7 +186,7 @@ module _ (c : Seen) (ok : IsPlain c) (l : Option LastLabel) (n : Counts) (x : St
   saves_seen : (j : ℕ) → Saves (state_of c l n) j x → seen_of x ≡ c
   saves_seen j h = ap seen_of h.rest ∙ ap (λ (f : ℕ → MemberState). record c { members = f }) (saves_members c ok l n x none shape h.passes.members)
 
-module _ (c : Seen) (ok : IsPlain c) (l k : Option LastLabel) (n m : Counts) (x y : State) (none : NoneRose n.faults x.counts.faults) (never : NoneRose m.faults y.counts.faults)
+module _ (c : Seen) (ok : IsFit c) (l k : Option LastLabel) (n m : Counts) (x y : State) (none : NoneRose n.faults x.counts.faults) (never : NoneRose m.faults y.counts.faults)
     (shape : x.table.shape ≡ c.table.shape) (other : y.table.shape ≡ c.table.shape) where
   settles_one : Settles AreTold (state_of c l n) x → Settles AreTold (state_of c k m) y → seen_of x ≡ seen_of y
   settles_one h g =
@@ -302,26 +307,26 @@ module _ (c : Seen) (ok : IsPlain c) (l k : Option LastLabel) (n m : Counts) (x 
 
   -- ---- saves
 
-  in_use : IsReduced (state_of c l n) → ⊥
-  in_use h = omega (arith, h, ok.boundaries, ap (λ (live : List ℕ). length live) ok.live, length-range_with_len 0 c.table.shape.b)
-
   save_lost_x : (s : ℕ) → Step AreTold (state_of c l n) Save (Lost s) x → IsLeastAt c ok s × (seen_of x ≡ c) × ((q : ℕ) → is_good (c.members q) ≡ false)
   save_lost_x s h = save_lost c ok l n x none shape s h
 
   save_lost_y : (s : ℕ) → Step AreTold (state_of c k m) Save (Lost s) y → IsLeastAt c ok s × (seen_of y ≡ c) × ((q : ℕ) → is_good (c.members q) ≡ false)
   save_lost_y s h = save_lost c ok k m y never other s h
 
-  pub save_one : next_sequence l ≡ next_sequence k → (r q : Reply) → Step AreTold (state_of c l n) Save r x → Step AreTold (state_of c k m) Save q y → AreOne r q x y
-  save_one number (Lost s) (Lost t) h g =
+  pub save_one : next_sequence l ≡ next_sequence k → (r q : Reply) → IsSavedWhole c r → IsSavedWhole c q → Step AreTold (state_of c l n) Save r x → Step AreTold (state_of c k m) Save q y → AreOne r q x y
+  save_one number (Lost s) (Lost t) here there h g =
       let a = save_lost_x s h in
       let b = save_lost_y t g in
       (ap Lost (least_same c ok s t a.0 b.0), a.1 ∙ sym b.1)
-  save_one number (Lost s) (Saved j) h g = absurd (false≢true (sym ((save_lost_x s h).2 g.some.0) ∙ saves_good c ok k m y never other j g))
-  save_one number (Lost s) NotSaved h g = absurd (in_use g.0)
-  save_one number (Lost s) q h g = absurd g
-  save_one number (Saved i) (Lost t) h g = absurd (false≢true (sym ((save_lost_y t g).2 h.some.0) ∙ saves_good c ok l n x none shape i h))
-  save_one number (Saved i) (Saved j) h g = (ap Saved (h.next ∙ number ∙ sym g.next), saves_seen c ok l n x none shape i h ∙ sym (saves_seen c ok k m y never other j g))
-  save_one number (Saved i) NotSaved h g = absurd (in_use g.0)
-  save_one number (Saved i) q h g = absurd g
-  save_one number NotSaved q h g = absurd (in_use h.0)
-  save_one number r q h g = absurd h
+  save_one number (Lost s) (Saved j) here there h g = absurd (false≢true (sym ((save_lost_x s h).2 g.some.0) ∙ saves_good c ok k m y never other j g))
+  save_one number (Lost s) NotSaved here there h g = absurd (here g.0)
+  save_one number (Lost s) q here there h g = absurd g
+  save_one number (Saved i) (Lost t) here there h g = absurd (false≢true (sym ((save_lost_y t g).2 h.some.0) ∙ saves_good c ok l n x none shape i h))
+  save_one number (Saved i) (Saved j) here there h g = (ap Saved (h.next ∙ number ∙ sym g.next), saves_seen c ok l n x none shape i h ∙ sym (saves_seen c ok k m y never other j g))
+  save_one number (Saved i) NotSaved here there h g = absurd (here g.0)
+  save_one number (Saved i) q here there h g = absurd g
+  save_one number NotSaved (Lost t) here there h g = absurd (there h.0)
+  save_one number NotSaved (Saved j) here there h g = absurd (there h.0)
+  save_one number NotSaved NotSaved here there h g = (refl, ap seen_of h.1 ∙ sym (ap seen_of g.1))
+  save_one number NotSaved q here there h g = absurd g
+  save_one number r q here there h g = absurd h

@@ -29,7 +29,7 @@ use Rattle.dg_model.specs.declared.replies.Reply.TheVariants.{Unavailable, NotSe
 use Rattle.dg_promise.proofs.SettleLaws.{on_inside}
 use Rattle.dg_promise.proofs.WantLaws.{some_block}
 use Rattle.dg_promise.specs.Promises.{AreTold}
-use Rattle.dg_uses.proofs.OneStep.{IsPlain, number_is}
+use Rattle.dg_uses.proofs.OneStep.{IsFit, one_boundary}
 use Rattle.dg_uses.proofs.OneView.{lines_same, ok_same}
 use Rattle.dg_uses.proofs.ReadOnce.{IsAnswer, answer_is, answer_some, not_cut_short, one_answer}
 use Rattle.dg_uses.proofs.Seen.{Seen, goes_stay, seen_of, state_of, stays_seen}
@@ -115,7 +115,7 @@ module _ (c : Seen) where
 
 -- ---- so is each step
 
-module _ (c : Seen) (ok : IsPlain c) (l : Option LastLabel) (n : Counts) (x : State) (none : NoneRose n.faults x.counts.faults) where
+module _ (c : Seen) (ok : IsFit c) (l : Option LastLabel) (n : Counts) (x : State) (none : NoneRose n.faults x.counts.faults) where
   stays : Stays (state_of c l n) x → seen_of x ≡ c
   stays h = stays_seen c l n x ok.paired none h
 
@@ -156,7 +156,7 @@ module _ (c : Seen) (ok : IsPlain c) (l : Option LastLabel) (n : Counts) (x : St
 
 -- ---- and one reply at most is
 
-module _ (c : Seen) (ok : IsPlain c) (d e : Seen) where
+module _ (c : Seen) (ok : IsFit c) (d e : Seen) where
   abbrev pub IsOne : Reply → Reply → Type 0
   IsOne r q = (r ≡ q) × (d ≡ e)
 
@@ -259,7 +259,7 @@ module _ (c : Seen) (ok : IsPlain c) (d e : Seen) where
 
     -- one place is that of one boundary
     number_same : (s t u : ℕ) → u < c.table.shape.b → place_in c.live s ≡ u → place_in c.live t ≡ u → s ≡ t
-    number_same s t u low a b = sym (number_is c ok s (omega (arith, low, a))) ∙ a ∙ sym b ∙ number_is c ok t (omega (arith, low, b))
+    number_same s t u low a b = one_boundary c ok s t (omega (arith, low, a)) (a ∙ sym b)
 
     copies_same : (i : ℕ) (found copy other : Option ℕ) → home_of c.copies i ≡ found → found ≡ option_map (place_in c.live) copy → found ≡ option_map (place_in c.live) other → copy ≡ other
     copies_same i None None None is a b = refl

@@ -24,7 +24,7 @@ use Rattle.dg_model.specs.declared.shapes.Shape.{Shape}
 use Rattle.dg_model.proofs.MemberLaws.{none_lost, whole_from}
 use Rattle.dg_promise.specs.Promises.{AreTold}
 use Rattle.dg_uses.proofs.OneRefill.{Reaped, one_refill}
-use Rattle.dg_uses.proofs.OneStep.{AreOne, IsPlain}
+use Rattle.dg_uses.proofs.OneStep.{AreOne, IsFit}
 use Rattle.dg_uses.proofs.OneVerdict.{verdict_same}
 use Rattle.dg_uses.proofs.OneView.{both}
 use Rattle.dg_uses.proofs.Seen.{Seen, members_stay, others_stay, seen_of, state_of}
@@ -42,7 +42,7 @@ no_good false true some lost = false≢true lost
 no_good false false (inl h) lost = false≢true h
 no_good false false (inr h) lost = false≢true h
 
-module _ (c : Seen) (ok : IsPlain c) where
+module _ (c : Seen) (ok : IsFit c) where
   -- a boundary has one at most
   one_filling : (p q r low high : ℕ) → IsRefilled c.members p q low → IsRefilled c.members p r high → q ≡ r
   one_filling p q r low high one other = elim (cases_eq q r) [
@@ -90,7 +90,7 @@ Spares c = (has_lost c.table.shape c.members ≡ true) ⊎ (c.phase ≡ Worn)
 abbrev refilled_by : Seen → Table → List (List ℕ) → (ℕ → MemberState) → Seen
 refilled_by c table blocks members = record c { table = table; blocks = blocks; members = members }
 
-module _ (c : Seen) (ok : IsPlain c) (l : Option LastLabel) (n : Counts) (x : State) (none : NoneRose n.faults x.counts.faults) where
+module _ (c : Seen) (ok : IsFit c) (l : Option LastLabel) (n : Counts) (x : State) (none : NoneRose n.faults x.counts.faults) where
   module _ (p limit d left : ℕ) (h : Rebuilds AreTold (state_of c l n) p limit d left x) where
     not_out : refilled_to (c.table.shape.k + 1) h.high ≢ Out
     not_out e = by (h.high == c.table.shape.k + 1) e
@@ -148,7 +148,7 @@ module _ (c : Seen) (ok : IsPlain c) (l : Option LastLabel) (n : Counts) (x : St
   not_lost_by : (s : ℕ) → BreaksOff AreTold (state_of c l n) (place_in c.live s) x → (is_lost c.members (place_in c.live s) ≡ true → ⊥) → is_lost x.members (place_in x.live s) ≡ true → ⊥
   not_lost_by s h stood lost = stood (subst (λ (d : Seen). is_lost d.members (place_in d.live s) ≡ true) (broken_off (place_in c.live s) h) lost)
 
-module _ (c : Seen) (ok : IsPlain c) (l k : Option LastLabel) (n m : Counts) (x y : State) (none : NoneRose n.faults x.counts.faults) (never : NoneRose m.faults y.counts.faults) where
+module _ (c : Seen) (ok : IsFit c) (l k : Option LastLabel) (n m : Counts) (x y : State) (none : NoneRose n.faults x.counts.faults) (never : NoneRose m.faults y.counts.faults) where
   rebuilt_one : (p limit a b i j : ℕ) → Rebuilds AreTold (state_of c l n) p limit a b x → Rebuilds AreTold (state_of c k m) p limit i j y → (Copied a b ≡ Copied i j) × (seen_of x ≡ seen_of y)
   rebuilt_one p limit a b i j h g =
       let member : g.q ≡ h.q = one_filling c ok p g.q h.q g.low h.low g.filling h.filling in

@@ -1,13 +1,12 @@
 -- Events on blocks and members: from one state, where no count of faults rises, an event has one reply, and leads to one state but for its counts
 -- and its label.
-use Rattle.std.proofs.Common.{◌≡◌, ◌∙◌, ◌<◌, ℕ, Bool, true, false, List, Option, refl, sym, ap, subst, inl, inr, arith}
-use Rattle.std.specs.Prelude.{replicate}
-use Rattle.std.proofs.lemmas.Bool.{cases_eq, cases_lt}
+use Rattle.std.proofs.Common.{◌≡◌, ◌∙◌, ◌<◌, ℕ, Bool, true, false, List, Option, get_or, length, refl, sym, ap, subst, inl, inr, arith}
+use Rattle.std.proofs.lemmas.Bool.{cases_eq}
 use Rattle.std.proofs.lemmas.List.Elements.{All-contains_itself, All-weaker}
 use Rattle.dg_model.specs.Blocks.{block_in}
 use Rattle.dg_model.specs.Causes.{NoneRose}
 use Rattle.dg_model.specs.Changes.{IsMember, LosesSites, Replaces, Stays, Writes, phase_after}
-use Rattle.dg_model.specs.Lives.{all_live, place_in}
+use Rattle.dg_model.specs.Lives.{place_in}
 use Rattle.dg_model.specs.Marks.{with_mark}
 use Rattle.dg_model.specs.Members.{ArePaired, is_lost}
 use Rattle.dg_model.specs.Placed.{IsPlaced}
@@ -24,7 +23,7 @@ use Rattle.dg_model.specs.declared.replies.Reply.TheVariants.{Done, Range, Degra
 use Rattle.dg_model.specs.declared.sites.Site.{Site}
 use Rattle.dg_model.specs.declared.wants.Want.{Want}
 use Rattle.dg_model.proofs.FirstSites.{IsInside, sited_same}
-use Rattle.dg_model.proofs.LineLaws.{place_beyond, place_whole}
+use Rattle.dg_model.proofs.RegroupLaws.{place_at}
 use Rattle.dg_model.proofs.TrimLaws.{trimmed_is}
 use Rattle.dg_promise.specs.Promises.{AreTold}
 use Rattle.dg_uses.proofs.Cores.{keeps_sites}
@@ -33,25 +32,18 @@ use Rattle.dg_uses.proofs.OneMark.{next_same}
 use Rattle.dg_uses.proofs.ReadOnce.{gone_seen}
 use Rattle.dg_uses.proofs.Seen.{Seen, goes_stay, others_stay, seen_of, state_of, stays_seen, struck_one}
 
--- What is needed of a state: its sites are a table, a member that is refilled has a good partner, all boundaries are in use,
--- no block was cut, and a settled one has each block in its place.
-pub record IsPlain (c : Seen) : Type 0 where
+-- What is needed of a state: its sites are a table, a member that is refilled has a good partner, it has a boundary in use for each of the table's,
+-- and a settled one has each block in its place.
+pub record IsFit (c : Seen) : Type 0 where
   pub table : IsTable c.table
   pub paired : ArePaired c.members
-  pub boundaries : c.boundaries ≡ c.table.shape.b
-  pub live : c.live ≡ all_live c.table.shape.b
-  pub cut : c.cut ≡ replicate c.table.shape.n false
+  pub size : c.table.shape.b ≡ length c.live
   pub placed : c.phase ≡ Settled → (wants : List (Option Want)) × IsPlaced wants c.table c.homes c.copies
 
-module _ (c : Seen) (ok : IsPlain c) where
-  -- a place is its boundary's number
-  pub number_is : (s : ℕ) → place_in c.live s < c.table.shape.b → place_in c.live s ≡ s
-  number_is s low = elim (cases_lt s c.table.shape.b) [
-    | inl less ↦ ap (λ (live : List ℕ). place_in live s) ok.live ∙ place_whole c.table.shape.b s less
-    | inr beyond ↦
-        let there : place_in c.live s ≡ c.table.shape.b = ap (λ (live : List ℕ). place_in live s) ok.live ∙ place_beyond c.table.shape.b s beyond in
-        absurd (omega (arith, low, there))
-  ]
+-- one place is that of one boundary
+pub one_boundary : (c : Seen) → IsFit c → (s t : ℕ) → place_in c.live s < c.table.shape.b → place_in c.live s ≡ place_in c.live t → s ≡ t
+one_boundary c ok s t low same =
+    sym (place_at c.live s (omega (arith, low, ok.size))) ∙ ap (λ (p : ℕ). get_or c.live p 0) same ∙ place_at c.live t (omega (arith, low, same, ok.size))
 
 -- an event has one reply, and leads to one state
 abbrev pub AreOne : Reply → Reply → State → State → Type 0
@@ -65,13 +57,13 @@ inside table ok = record {
 }
 
 -- of an array that is whole no write is refused where no count of faults rises
-pub not_lost : (c : Seen) → IsPlain c → (b : ℕ) (members : ℕ → MemberState) → b < c.table.shape.n → members ≡ c.members → has_lost c.table.shape c.members ≡ false
+pub not_lost : (c : Seen) → IsFit c → (b : ℕ) (members : ℕ → MemberState) → b < c.table.shape.n → members ≡ c.members → has_lost c.table.shape c.members ≡ false
     → LosesSites c.table b members → ⊥
 not_lost c ok b members low same whole h =
     let lost = keeps_sites c.table.shape c.table b members (omega (arith, ok.table.shape.least_boundaries)) low (inside c.table ok.table) h in
     both (has_lost c.table.shape c.members) (subst (λ (m : ℕ → MemberState). has_lost c.table.shape m ≡ true) same lost) whole
 
-module _ (c : Seen) (ok : IsPlain c) (l k : Option LastLabel) (n m : Counts) (x y : State) (none : NoneRose n.faults x.counts.faults) (never : NoneRose m.faults y.counts.faults) where
+module _ (c : Seen) (ok : IsFit c) (l k : Option LastLabel) (n m : Counts) (x y : State) (none : NoneRose n.faults x.counts.faults) (never : NoneRose m.faults y.counts.faults) where
   pub same_x : x ≡ state_of c l n → seen_of x ≡ c
   same_x e = ap seen_of e
 

@@ -16,7 +16,7 @@ use Rattle.dg_promise.specs.Steady.{FitsBlock}
 use Rattle.dg_text.specs.Lines.{IsInPlace}
 
 -- a write of a line in its place has at most the bytes of a block
-fits : (shape : Shape) (event : Event) → IsInPlace (Some shape) event → FitsBlock shape.l event
+pub fits : (shape : Shape) (event : Event) → IsInPlace (Some shape) event → FitsBlock shape.l event
 fits shape event place = λ b bytes is. let here = subst (λ (e : Event). IsInPlace (Some shape) e) is place in here.1
 
 pub all_fit : (shape : Shape) (events : List Event) → All (IsInPlace (Some shape)) events → All (FitsBlock shape.l) events

@@ -1,8 +1,7 @@
 -- Histories whose bytes are told; and the run of a history's states over members of which nothing is counted behind the array's own.
 use Rattle.std.proofs.Common.{◌≡◌, ◌≤◌, ◌<◌, ◌/◌, ◌∙◌, ◌++◌, inl, inr, ℕ, List, [], ◌∷◌, length, refl, sym, ap, subst, arith}
-use Rattle.std.specs.Prelude.{◌≢◌, if◌then◌else◌, false, nat_lt, All, Some}
+use Rattle.std.specs.Prelude.{if◌then◌else◌, false, nat_lt, Some}
 use Rattle.std.proofs.lemmas.Bool.{cases_lt}
-use Rattle.std.proofs.lemmas.List.Elements.{All-head, All-tail}
 use Rattle.std.proofs.lemmas.List.FromFn.{length-range_with_len}
 use Rattle.dg_kept.specs.Opened.{AreTold}
 use Rattle.dg_model.proofs.KnownLaws.{run_less, step_less}
@@ -20,7 +19,7 @@ use Rattle.dg_model.specs.declared.replies.Reply.{Reply}
 use Rattle.dg_model.specs.declared.replies.Reply.TheVariants.{Done, NotParity, Saved}
 use Rattle.dg_model.specs.declared.shapes.Shape.{Shape}
 use Rattle.dg_text.specs.Lines.{AreInPlace, IsInPlace}
-use Rattle.dg_uses.proofs.NextNumbers.{AllServed, IsServed}
+use Rattle.dg_uses.proofs.NextNumbers.{IsServed}
 use Rattle.dg_uses.proofs.Quiet.{at_high, at_low, quiet, quiet_counts, quiet_rises, quiet_rose, quiet_step}
 use Rattle.dg_uses.proofs.Seated.{IsSeated, blank_seated, run_sits, sits_next, step_seated}
 
@@ -75,7 +74,7 @@ none_at_all : Rose 0 0 → ⊥
 none_at_all rose = omega (arith, rose)
 
 -- no count of the members of an array rose, where none of its rack's did
-quiet_none : (b : ℕ) (live : List ℕ) (before after first last : Counts) → length live ≡ b → AreCountsOf live before first → AreCountsOf live after last
+pub quiet_none : (b : ℕ) (live : List ℕ) (before after first last : Counts) → length live ≡ b → AreCountsOf live before first → AreCountsOf live after last
     → NoneRose before.faults after.faults → NoneRose (quiet_counts b first).faults (quiet_counts b last).faults
 quiet_none b live before after first last size begun tied none q rose = elim (cases_lt (q / 2) b) [
   | inl low ↦
@@ -99,7 +98,7 @@ quiet_run Known b old (event ∷ events) (reply ∷ replies) new was size stay r
     let same : run.0.table.shape.b ≡ b = one.seated.size ∙ ap (λ (l : List ℕ). length l) one.live ∙ sym was.size ∙ size in
     (quiet b run.0, quiet_step Known b old run.0 was size event reply stay.0 run.1, quiet_run Known b run.0 events replies new one.seated same stay.1 run.2)
 
-quiet_blank : (shape : Shape) (first : Counts) (blank : State) → IsBlank shape first blank → IsBlank shape (quiet_counts shape.b first) (quiet shape.b blank)
+pub quiet_blank : (shape : Shape) (first : Counts) (blank : State) → IsBlank shape first blank → IsBlank shape (quiet_counts shape.b first) (quiet shape.b blank)
 quiet_blank shape first blank h = record {
   is = ap (λ (s : State). quiet shape.b s) h.is;
   others = h.others;
@@ -173,50 +172,29 @@ mend_reply : (old : Moment) (s j : ℕ) (reply : Reply) (new : Moment) → IsAll
 mend_reply old s j NotParity new h = refl
 mend_reply old s j reply new h = absurd h
 
-happens_served : (Known : Type 0) (shape : Shape) (old : Moment) (event : Event) (reply : Reply) (new : Moment) → IsInPlace (Some shape) event → event ≢ Regroup
-    → Happens Known plain old event reply new → IsServed event reply
-happens_served Known shape old (Array s) reply new place apart h = absurd place
-happens_served Known shape old (Write b bytes) reply new place apart h = tt
-happens_served Known shape old (Read b) reply new place apart h = tt
-happens_served Known shape old (Fail s j) reply new place apart h = tt
-happens_served Known shape old (Replace s j) reply new place apart h = tt
-happens_served Known shape old (Rebuild s n) reply new place apart h = tt
-happens_served Known shape old Settle reply new place apart h = tt
-happens_served Known shape old (Tend n) reply new place apart h = tt
-happens_served Known shape old Diffuse reply new place apart h = tt
-happens_served Known shape old (Who b) reply new place apart h = tt
-happens_served Known shape old Pending reply new place apart h = tt
-happens_served Known shape old (Cat path) reply new place apart h = tt
-happens_served Known shape old (Ls path) reply new place apart h = tt
-happens_served Known shape old Tree reply new place apart h = tt
-happens_served Known shape old (Home path) reply new place apart h = tt
-happens_served Known shape old Save reply new place apart h = tt
-happens_served Known shape old Regroup reply new place apart h = absurd (apart refl)
-happens_served Known shape old LostFiles reply new place apart h = tt
-happens_served Known shape old Audit reply new place apart h = tt
-happens_served Known shape old (DropDisk s j) reply new place apart h = drop_reply old s j reply new h.allowed
-happens_served Known shape old (MendDisk s j) reply new place apart h = mend_reply old s j reply new h.allowed
-happens_served Known shape old event reply new place apart h = absurd place
-
-history_served : (Known : Type 0) (shape : Shape) (old : Moment) (events : List Event) (replies : List Reply) (new : Moment) → All (IsInPlace (Some shape)) events
-    → All (λ event. event ≢ Regroup) events → History Known plain old events replies new → AllServed events replies
-history_served Known shape old [] replies new places apart h = tt
-history_served Known shape old (event ∷ events) [] new places apart h = tt
-history_served Known shape old (event ∷ events) (reply ∷ replies) new places apart h = (
-  happens_served Known shape old event reply h.0 (All-head (IsInPlace (Some shape)) event events places) (All-head (λ event. event ≢ Regroup) event events apart) h.1,
-  history_served Known shape h.0 events replies new (All-tail (IsInPlace (Some shape)) event events places) (All-tail (λ event. event ≢ Regroup) event events apart) h.2,
-)
-
-pub ran_served : (Known : Type 0) (before : Counts) (shape : Shape) (events : List Event) (replies : List Reply) (final : Moment) → All (IsInPlace (Some shape)) events
-    → All (λ event. event ≢ Regroup) events → HistoryOf Known before (Array shape ∷ events) replies final → (rest : List Reply) → replies ≡ Done ∷ rest
-    → AllServed events rest
-ran_served Known before shape events [] final places apart h rest is = absurd h
-ran_served Known before shape events (Done ∷ replies) final places apart h rest is =
-    subst (λ (r : List Reply). AllServed events r) (tail_is is) (history_served Known shape h.0 events replies final places apart h.2)
-  where
-    tail_is : Done ∷ replies ≡ Done ∷ rest → replies ≡ rest
-    tail_is e = cc e
-ran_served Known before shape events (reply ∷ replies) final places apart h rest is = absurd h
+pub happens_served : (Known : Type 0) (shape : Shape) (old : Moment) (event : Event) (reply : Reply) (new : Moment) → IsInPlace (Some shape) event → Happens Known plain old event reply new → IsServed event reply
+happens_served Known shape old (Array s) reply new place h = absurd place
+happens_served Known shape old (Write b bytes) reply new place h = tt
+happens_served Known shape old (Read b) reply new place h = tt
+happens_served Known shape old (Fail s j) reply new place h = tt
+happens_served Known shape old (Replace s j) reply new place h = tt
+happens_served Known shape old (Rebuild s n) reply new place h = tt
+happens_served Known shape old Settle reply new place h = tt
+happens_served Known shape old (Tend n) reply new place h = tt
+happens_served Known shape old Diffuse reply new place h = tt
+happens_served Known shape old (Who b) reply new place h = tt
+happens_served Known shape old Pending reply new place h = tt
+happens_served Known shape old (Cat path) reply new place h = tt
+happens_served Known shape old (Ls path) reply new place h = tt
+happens_served Known shape old Tree reply new place h = tt
+happens_served Known shape old (Home path) reply new place h = tt
+happens_served Known shape old Save reply new place h = tt
+happens_served Known shape old Regroup reply new place h = tt
+happens_served Known shape old LostFiles reply new place h = tt
+happens_served Known shape old Audit reply new place h = tt
+happens_served Known shape old (DropDisk s j) reply new place h = drop_reply old s j reply new h.allowed
+happens_served Known shape old (MendDisk s j) reply new place h = mend_reply old s j reply new h.allowed
+happens_served Known shape old event reply new place h = absurd place
 
 -- ---- a history that ends with a save
 

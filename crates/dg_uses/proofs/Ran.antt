@@ -1,13 +1,12 @@
 -- Runs in which no count of faults rose, and after which the rack still tells each member of the array.
-use Rattle.std.proofs.Common.{◌≡◌, ◌≢◌, false, ℕ, List, [], ◌∷◌, ap, refl, sym, subst}
+use Rattle.std.proofs.Common.{◌≡◌, false, ℕ, List, [], ◌∷◌, sym, subst}
 use Rattle.std.specs.Prelude.{All}
 use Rattle.std.proofs.lemmas.List.Elements.{All-cons, All-nil}
 use Rattle.dg_model.specs.Causes.{NoneRose}
-use Rattle.dg_model.specs.Moments.{HistoryOf, Moment}
 use Rattle.dg_model.specs.States.{Counts}
 use Rattle.dg_model.specs.declared.shapes.Shape.{Shape}
 use Rattle.dg_model.specs.declared.events.Event.{Event}
-use Rattle.dg_model.specs.declared.events.Event.TheVariants.{Array, Write, Read, Fail, Cat, Ls, Regroup}
+use Rattle.dg_model.specs.declared.events.Event.TheVariants.{Array, Write, Read, Fail, Cat, Ls}
 use Rattle.dg_model.specs.declared.replies.Reply.{Reply}
 use Rattle.dg_model.specs.declared.replies.Reply.TheVariants.{Done}
 use Rattle.dg_run.specs.Replays.{TellsBoundaries}
@@ -17,11 +16,9 @@ use Rattle.dg_uses.specs.Answers.{StaysWhole, answers}
 use Rattle.dg_uses.proofs.Chains.{trace_views}
 use Rattle.dg_uses.proofs.Flat.{trace_answers, whole_stay}
 use Rattle.dg_uses.proofs.InUse.{IsViewed, viewed_stay}
-use Rattle.dg_uses.proofs.NextNumbers.{AllServed}
-use Rattle.dg_uses.proofs.OneRun.{BlanksAreSteady, StepsKeepSteady, served_stay, traces_one}
-use Rattle.dg_uses.proofs.Promised.{all_fit, trace_told}
+use Rattle.dg_uses.proofs.OneRun.{BlanksAreSteady, Premise, StepsKeepSteady, histories_one}
 use Rattle.dg_uses.proofs.Quiet.{quiet, quiet_counts}
-use Rattle.dg_uses.proofs.QuietRuns.{IsQuiet, Stay, quiet_history, ran_served, stay_for}
+use Rattle.dg_uses.proofs.QuietRuns.{IsQuiet, Stay, quiet_history, stay_for}
 
 -- events that have views are among those of which they are told
 view_viewed : (old : Core) (event : Event) (reply : Reply) (new : Core) → View old event reply new → IsViewed event
@@ -50,18 +47,6 @@ module _ (tells : ℕ → Type 0) (shape : Shape) (events : List Event) (replies
   none_at_end : NoneRose (quiet_counts shape.b quiet_ran.first).faults (quiet_counts shape.b run.ran.final.state.counts).faults
   none_at_end = quiet_ran.none (subst (λ (c : Counts). NoneRose run.before.faults c.faults) (sym run.ran.counts) run.none)
 
-served_for : (events : List Event) (replies : List Reply) → ((rest : List Reply) → replies ≡ Done ∷ rest → AllServed events rest)
-    → ((reply : Reply) (rest : List Reply) → replies ≡ reply ∷ rest → reply ≡ Done) → Stay events replies
-served_for events [] h first = tt
-served_for events (reply ∷ replies) h first =
-    served_stay events replies (h replies (ap (λ (z : Reply). z ∷ replies) (first reply replies refl)))
-
-first_done : (K : Type 0) (before : Counts) (shape : Shape) (events : List Event) (replies : List Reply) (final : Moment) → HistoryOf K before (Array shape ∷ events) replies final
-    → (reply : Reply) (rest : List Reply) → replies ≡ reply ∷ rest → reply ≡ Done
-first_done K before shape events [] final h reply rest is = absurd h
-first_done K before shape events (Done ∷ replies) final h reply rest is = cc is
-first_done K before shape events (other ∷ replies) final h reply rest is = absurd h
-
 pub ran_views : (tells : ℕ → Type 0) (shape : Shape) (events : List Event) (replies chain : List Reply) (end : Core) → RanSmoothly tells (Array shape ∷ events) replies
     → Views (blank_core shape) events chain end → replies ≡ Done ∷ chain
 ran_views tells shape events replies chain end run views =
@@ -71,22 +56,21 @@ ran_views tells shape events replies chain end run views =
     trace_views (TellsBoundaries tells run.ran.final.state) run.told shape events (quiet_counts shape.b q.first) replies chain (quiet shape.b run.ran.final.state) end
     run.ran.in_place.0 viewed (none_at_end tells shape events replies run stay) q.trace views
 
+-- the premise on the steps of two such runs that took boundaries out of use
+abbrev pub TookAlike : (tells told : ℕ → Type 0) (shape : Shape) (events : List Event) (replies others : List Reply) → RanSmoothly tells (Array shape ∷ events) replies
+    → RanSmoothly told (Array shape ∷ events) others → Type 0
+TookAlike tells told shape events replies others x y =
+    Premise (TellsBoundaries tells x.ran.final.state) (TellsBoundaries told y.ran.final.state) shape events x.before y.before replies others x.ran.final y.ran.final x.ran.history y.ran.history
+
 pub ran_same : StepsKeepSteady → BlanksAreSteady → (tells told : ℕ → Type 0) (shape : Shape) (events : List Event) (replies others : List Reply)
-    → All (λ event. event ≢ Regroup) events → RanSmoothly tells (Array shape ∷ events) replies → RanSmoothly told (Array shape ∷ events) others → replies ≡ others
-ran_same steps blanks tells told shape events replies others apart x y =
-    let K = TellsBoundaries tells x.ran.final.state in
-    let L = TellsBoundaries told y.ran.final.state in
-    let serves = ran_served K x.before shape events replies x.ran.final x.ran.in_place.1 apart x.ran.history in
-    let answers = ran_served L y.before shape events others y.ran.final y.ran.in_place.1 apart y.ran.history in
-    let stay = served_for events replies serves (first_done K x.before shape events replies x.ran.final x.ran.history) in
-    let stays = served_for events others answers (first_done L y.before shape events others y.ran.final y.ran.history) in
-    let a = quiet_ran tells shape events replies x stay in
-    let b = quiet_ran told shape events others y stays in
-    traces_one steps blanks shape events (quiet_counts shape.b a.first) (quiet_counts shape.b b.first) replies others
-    (quiet shape.b x.ran.final.state) (quiet shape.b y.ran.final.state) x.ran.in_place.0 serves answers (all_fit shape events x.ran.in_place.1)
-    (none_at_end tells shape events replies x stay) (none_at_end told shape events others y stays)
-    (trace_told (quiet_counts shape.b a.first) shape events replies (quiet shape.b x.ran.final.state) x.told a.trace)
-    (trace_told (quiet_counts shape.b b.first) shape events others (quiet shape.b y.ran.final.state) y.told b.trace)
+    → (x : RanSmoothly tells (Array shape ∷ events) replies) (y : RanSmoothly told (Array shape ∷ events) others) → TookAlike tells told shape events replies others x y
+    → replies ≡ others
+ran_same steps blanks tells told shape events replies others x y took =
+    histories_one steps blanks (TellsBoundaries tells x.ran.final.state) (TellsBoundaries told y.ran.final.state) x.told y.told shape x.ran.in_place.0 events x.ran.in_place.1 x.before y.before
+    replies others x.ran.final y.ran.final
+    (subst (λ (c : Counts). NoneRose x.before.faults c.faults) (sym x.ran.counts) x.none)
+    (subst (λ (c : Counts). NoneRose y.before.faults c.faults) (sym y.ran.counts) y.none)
+    x.ran.history y.ran.history took
 
 pub ran_answers : (tells : ℕ → Type 0) (shape : Shape) (events : List Event) (replies : List Reply) → StaysWhole shape (λ q. false) events
     → RanSmoothly tells (Array shape ∷ events) replies

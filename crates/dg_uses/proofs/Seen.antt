@@ -65,7 +65,7 @@ state_of c label counts = record {
 not_good : (m : MemberState) → m ≡ Out → is_good m ≡ false
 not_good m out = ap is_good out
 
-good_fills : (m : MemberState) → is_good m ≡ true → is_filling m ≡ false
+pub good_fills : (m : MemberState) → is_good m ≡ true → is_filling m ≡ false
 good_fills Good h = refl
 good_fills (Filling have) h = absurd (false≢true h)
 good_fills Out h = refl

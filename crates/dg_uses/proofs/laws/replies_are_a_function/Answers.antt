@@ -1,6 +1,7 @@
+use Rattle.std.proofs.Common.{inr}
 use Rattle.dg_uses.proofs.Ran.{ran_same}
 use Rattle.dg_uses.proofs.laws.replies_are_a_function.Goals as goal
 
 pub returns : goal.returns
-returns g c = λ end other shape events replies others apart x y.
-    ran_same c.steps_keep_steady.ensures c.blank_arrays_are_steady.ensures (g.R.Rack.tells end) (g.Q.Rack.tells other) shape events replies others apart x y
+returns g c = λ end other shape events replies others none x y.
+    ran_same c.steps_keep_steady.ensures c.blank_arrays_are_steady.ensures (g.R.Rack.tells end) (g.Q.Rack.tells other) shape events replies others x y (inr none)
