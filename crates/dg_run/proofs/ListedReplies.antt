@@ -29,12 +29,13 @@ pub record Listing (A : Type 0) : Type 0 where
   pub whole_line : (items : List A) → reply_line (whole items) ≡ (text items ++ (codes "end " ++ decimal (length items))) ++ codes "\n"
   pub cut_line : (items : List A) → reply_line (cut items) ≡ (text items ++ (codes "cut " ++ decimal (length items))) ++ codes "\n"
 
--- A sink was lent for its lines, as `old`: what that takes of them the sink takes.
-pub record Lent {A L K : Type 0} (kind : Listing A) (ghosts : sinks.Ghosts K) (sink : K) (sink_of : L → K) (took took_part : L → List A → L → Type 0) (old : L) : Type 0 where
+-- A sink was lent for its lines, as `old`, which was `out` when the array had done (`b`): what that took of them the sink took.
+pub record Lent {A L K R : Type 0} (kind : Listing A) (ghosts : sinks.Ghosts K) (rack : Ghosts R) (sink : K) (sink_of : L → K) (took took_part : L → List A → L → Type 0) (old out : L) (a b : Array R) : Type 0 where
   pub is : sink_of old ≡ sink
-  pub told : (items : List A) (out : L) → took old items out → Told (Took (kind.text items)) (ghosts.taken sink) (ghosts.taken (sink_of out))
-  pub part : (items : List A) (out : L) → took_part old items out → Told (TookPart (kind.text items)) (ghosts.taken sink) (ghosts.taken (sink_of out))
-  pub few : (items : List A) (out : L) → took old items out → Leaves ghosts (sink_of old) (sink_of out)
+  pub told : (items : List A) → took old items out → Told (Took (kind.text items)) (ghosts.taken sink) (ghosts.taken (sink_of out))
+  pub part : (items : List A) → took_part old items out → Told (TookPart (kind.text items)) (ghosts.taken sink) (ghosts.taken (sink_of out))
+  pub few : (items : List A) → took old items out → Leaves ghosts (sink_of old) (sink_of out)
+  pub hot : b.hot ≡ a.hot
 
 -- lines of items, and then the one of this word that ends them
 module _ {A R : Type 0} (rack : Ghosts R) (event : Event) (reply : Reply) (text word : List ℕ) (items : List A) (n : ℕ) (a b : Array R)
@@ -54,13 +55,13 @@ module _ {A R : Type 0} (rack : Ghosts R) (event : Event) (reply : Reply) (text 
     output = subst (λ (l : List ℕ). Told (TookPart l) x z) (sym is) (part_lines text word items n x z size (part_end text (last_line word n) x y z lines last));
   }
 
-module _ {A L K R : Type 0} {kind : Listing A} {ghosts : sinks.Ghosts K} {sink : K} {sink_of : L → K} {took took_part : L → List A → L → Type 0} {old : L}
-    (by : Lent kind ghosts sink sink_of took took_part old) (rack : Ghosts R) (a b : Array R) (hot : b.hot ≡ a.hot) (out : L) where
+module _ {A L K R : Type 0} {kind : Listing A} {ghosts : sinks.Ghosts K} {rack : Ghosts R} {sink : K} {sink_of : L → K} {took took_part : L → List A → L → Type 0} {old out : L}
+    {a b : Array R} (by : Lent kind ghosts rack sink sink_of took took_part old out a b) where
   abbrev Steps : Reply → Type 0
   Steps reply = volumes.StepsTo any_phase any_phase rack a.volume kind.event reply b.volume
 
   steps_in : (reply : Reply) → Steps reply → StepsTo rack a kind.event reply b
-  steps_in reply steps = steps_of rack a b kind.event reply (kind.in_use reply) hot steps
+  steps_in reply steps = steps_of rack a b kind.event reply (kind.in_use reply) by.hot steps
 
   -- so many items were handed to it, with which the volume answers so
   abbrev Hands : (List A → Reply) → ℕ → Type 0
@@ -70,27 +71,27 @@ module _ {A L K R : Type 0} {kind : Listing A} {ghosts : sinks.Ghosts K} {sink :
   pub whole_answered : {k end : K} (n : ℕ) → Hands kind.whole n → Told (Took (last_line (codes "end ") n)) (ghosts.taken (sink_of out)) (ghosts.taken k) → k ≡ end
       → Answered rack kind.event (ghosts.taken sink) (ghosts.taken end) a b
   whole_answered n h last back = subst (λ (s : K). Answered rack kind.event (ghosts.taken sink) (ghosts.taken s) a b) back
-      (ended rack kind.event (kind.whole h.0) (kind.text h.0) (codes "end ") h.0 n a b (kind.whole_line h.0) h.1 (steps_in (kind.whole h.0) h.3) _ _ _ (by.told h.0 out h.2) last)
+      (ended rack kind.event (kind.whole h.0) (kind.text h.0) (codes "end ") h.0 n a b (kind.whole_line h.0) h.1 (steps_in (kind.whole h.0) h.3) _ _ _ (by.told h.0 h.2) last)
 
   pub whole_part : {k end : K} (n : ℕ) → Hands kind.whole n → Told (TookPart (last_line (codes "end ") n)) (ghosts.taken (sink_of out)) (ghosts.taken k) → k ≡ end
       → AnsweredPart rack kind.event (ghosts.taken sink) (ghosts.taken end) a b
   whole_part n h last back = subst (λ (s : K). AnsweredPart rack kind.event (ghosts.taken sink) (ghosts.taken s) a b) back
-      (ended_part rack kind.event (kind.whole h.0) (kind.text h.0) (codes "end ") h.0 n a b (kind.whole_line h.0) h.1 (steps_in (kind.whole h.0) h.3) _ _ _ (by.told h.0 out h.2) last)
+      (ended_part rack kind.event (kind.whole h.0) (kind.text h.0) (codes "end ") h.0 n a b (kind.whole_line h.0) h.1 (steps_in (kind.whole h.0) h.3) _ _ _ (by.told h.0 h.2) last)
 
   -- the same of a listing that was cut off
   pub cut_answered : {k end : K} (n : ℕ) → Hands kind.cut n → Told (Took (last_line (codes "cut ") n)) (ghosts.taken (sink_of out)) (ghosts.taken k) → k ≡ end
       → Answered rack kind.event (ghosts.taken sink) (ghosts.taken end) a b
   cut_answered n h last back = subst (λ (s : K). Answered rack kind.event (ghosts.taken sink) (ghosts.taken s) a b) back
-      (ended rack kind.event (kind.cut h.0) (kind.text h.0) (codes "cut ") h.0 n a b (kind.cut_line h.0) h.1 (steps_in (kind.cut h.0) h.3) _ _ _ (by.told h.0 out h.2) last)
+      (ended rack kind.event (kind.cut h.0) (kind.text h.0) (codes "cut ") h.0 n a b (kind.cut_line h.0) h.1 (steps_in (kind.cut h.0) h.3) _ _ _ (by.told h.0 h.2) last)
 
   pub cut_part : {k end : K} (n : ℕ) → Hands kind.cut n → Told (TookPart (last_line (codes "cut ") n)) (ghosts.taken (sink_of out)) (ghosts.taken k) → k ≡ end
       → AnsweredPart rack kind.event (ghosts.taken sink) (ghosts.taken end) a b
   cut_part n h last back = subst (λ (s : K). AnsweredPart rack kind.event (ghosts.taken sink) (ghosts.taken s) a b) back
-      (ended_part rack kind.event (kind.cut h.0) (kind.text h.0) (codes "cut ") h.0 n a b (kind.cut_line h.0) h.1 (steps_in (kind.cut h.0) h.3) _ _ _ (by.told h.0 out h.2) last)
+      (ended_part rack kind.event (kind.cut h.0) (kind.text h.0) (codes "cut ") h.0 n a b (kind.cut_line h.0) h.1 (steps_in (kind.cut h.0) h.3) _ _ _ (by.told h.0 h.2) last)
 
   -- no more often than there are lines, and 255 bytes
   pub ended_lines : {k end : K} (items : List A) → took old items out → Leaves ghosts (sink_of out) k → k ≡ end → Leaves ghosts sink end
-  ended_lines items taken last back = lent_both ghosts _ _ (sink_of out) _ _ by.is (by.few items out taken) last back
+  ended_lines items taken last back = lent_both ghosts _ _ (sink_of out) _ _ by.is (by.few items taken) last back
 
   -- the sink failed at a line
   pub front_part : {end : K} (items : List A) → took_part old items out → Steps (kind.whole items) → sink_of out ≡ end
@@ -99,7 +100,7 @@ module _ {A L K R : Type 0} {kind : Listing A} {ghosts : sinks.Ghosts K} {sink :
     reply = kind.whole items;
     steps = weaker_steps rack a b kind.event (kind.whole items) (steps_in (kind.whole items) steps);
     output = subst (λ (l : List ℕ). Told (TookPart l) (ghosts.taken sink) (ghosts.taken (sink_of out))) (sym (kind.whole_line items))
-        (part_of_lines (kind.text items) (codes "end ") items _ _ (by.part items out taken));
+        (part_of_lines (kind.text items) (codes "end ") items _ _ (by.part items taken));
   })
 
   -- memory was wanting: it took nothing, or the lines of the first items
@@ -114,7 +115,7 @@ module _ {A L K R : Type 0} {kind : Listing A} {ghosts : sinks.Ghosts K} {sink :
     text = kind.text some.0;
     lines = begins some.0 some.1;
     steps = weaker_steps rack a b kind.event (kind.whole (some.0 ++ some.1)) (steps_in (kind.whole (some.0 ++ some.1)) some.3);
-    output = by.told some.0 out some.2;
+    output = by.told some.0 some.2;
   }))
 
   pub wanted : {end : K} → ((items : List A) (rest : List A) → BeginsLines kind.event (kind.whole (items ++ rest)) (kind.text items)) → HandsFirst → sink_of out ≡ end
@@ -123,7 +124,7 @@ module _ {A L K R : Type 0} {kind : Listing A} {ghosts : sinks.Ghosts K} {sink :
 
   few_first : HandsFirst → Leaves ghosts (sink_of old) (sink_of out)
   few_first (inl same) = subst (λ (l : L). Leaves ghosts (sink_of old) (sink_of l)) (sym same) (lines_none 255 ghosts.whole ghosts.calls ghosts.taken (sink_of old))
-  few_first (inr some) = by.few some.0 out some.2
+  few_first (inr some) = by.few some.0 some.2
 
   pub wanted_lines : {end : K} → HandsFirst → sink_of out ≡ end → Leaves ghosts sink end
   wanted_lines h back = lent ghosts _ _ (sink_of out) _ by.is (few_first h) back

@@ -1,6 +1,7 @@
 -- What was written of the files that lost blocks.
 use Rattle.std.proofs.Common.{◌≡◌, ℕ, List, refl, subst}
 use Rattle.dg_io.specs.Told.{Told, Took, TookPart}
+use Rattle.dg_io.specs.declared.outside.Rack.{Ghosts}
 use Rattle.dg_io.specs.declared.outside.Sink as sinks
 use Rattle.dg_model.specs.Paths.{PathOf}
 use Rattle.dg_model.specs.declared.events.Event.TheVariants.{LostFiles}
@@ -8,6 +9,7 @@ use Rattle.dg_model.specs.declared.replies.Reply.{Reply}
 use Rattle.dg_model.specs.declared.replies.Reply.TheVariants.{LostFiles as LostFilesReply, LostFilesCut, NotSettled}
 use Rattle.dg_run.proofs.ListedReplies.{Lent, Listing}
 use Rattle.dg_run.proofs.PathReplies.{reply_is}
+use Rattle.dg_run.specs.declared.arrays.Array.{Array}
 use Rattle.dg_saved.specs.PathReplies.{HasReply}
 use Rattle.dg_text.specs.LostLines.{TookLost, TookLostPart}
 use Rattle.dg_text.specs.Replies.{lost_text}
@@ -40,11 +42,12 @@ loose_lost took took_part faults old new holds TreeNotSettled other rule = rule
 abbrev pub lost : Listing PathOf
 lost = record { event = LostFiles; whole = LostFilesReply; cut = LostFilesCut; text = lost_text; in_use = λ reply. tt; whole_line = λ files. refl; cut_line = λ files. refl }
 
-pub lost_lent : {K : Type 0} (ghosts : sinks.Ghosts K) (sink : K) (old : LostLines K) → old.sink.now ≡ sink
-    → Lent lost ghosts sink (λ (s : LostLines K). s.sink.now) (TookLost ghosts) (TookLostPart ghosts) old
-lost_lent {K = K} ghosts sink old is = record {
+pub lost_lent : {K R : Type 0} (ghosts : sinks.Ghosts K) (rack : Ghosts R) (sink : K) (old out : LostLines K) (a b : Array R) → old.sink.now ≡ sink → b.hot ≡ a.hot
+    → Lent lost ghosts rack sink (λ (s : LostLines K). s.sink.now) (TookLost ghosts) (TookLostPart ghosts) old out a b
+lost_lent {K = K} ghosts rack sink old out a b is hot = record {
   is = is;
-  told = λ files out took. subst (λ (k : K). Told (Took (lost_text files)) (ghosts.taken k) (ghosts.taken out.sink.now)) is took.told;
-  part = λ files out took. subst (λ (k : K). Told (TookPart (lost_text files)) (ghosts.taken k) (ghosts.taken out.sink.now)) is took.told;
-  few = λ files out took. took.few_lines;
+  told = λ files took. subst (λ (k : K). Told (Took (lost_text files)) (ghosts.taken k) (ghosts.taken out.sink.now)) is took.told;
+  part = λ files took. subst (λ (k : K). Told (TookPart (lost_text files)) (ghosts.taken k) (ghosts.taken out.sink.now)) is took.told;
+  few = λ files took. took.few_lines;
+  hot = hot;
 }

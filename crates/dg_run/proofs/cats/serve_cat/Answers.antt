@@ -123,6 +123,7 @@ returns-in-SinkFault-clause-part g c = λ is.
     (subst (λ (p : List ℕ). StepsBy any_phase any_phase g.R.Rack touch a.volume (Cat p) (Given all) c.cat.new.self) c.as_slice.ensures (rule.3 all are whole)))
     (subst (λ k. Told (TookPart (file_text file.lines)) (g.K.Sink.taken c.args.sink.now) (g.K.Sink.taken k)) (search rules) told)
 
+-- the reply that gave nothing
 nothing : (g : _) (c : After-send_nothing g) → Sent g.K.Sink g.R.Rack (Cat c.args.path.now) c.args.sink.now c.send_nothing.new.sink c.args.array.now (record c.args.array.now { volume = c.cat.new.self }) c.send_nothing.result
 nothing g c =
     let a = c.args.array.now in

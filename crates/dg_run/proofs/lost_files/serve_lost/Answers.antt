@@ -2,41 +2,47 @@ use Rattle.std.proofs.Common.{refl, rules}
 use Rattle.dg_model.specs.declared.events.Event.TheVariants.{LostFiles}
 use Rattle.dg_model.specs.declared.replies.Reply.TheVariants.{NotSettled}
 use Rattle.dg_run.proofs.ArraySteps.{steps_of}
-use Rattle.dg_run.proofs.ListedReplies.{cut_answered, cut_part, ended_lines, front_part, wanted, wanted_lines, whole_answered, whole_part}
-use Rattle.dg_run.proofs.LostReplies.{loose_lost, lost_lent, lost_nothing}
+use Rattle.dg_run.proofs.ListedReplies.{Lent, cut_answered, cut_part, ended_lines, front_part, wanted, wanted_lines, whole_answered, whole_part}
+use Rattle.dg_run.proofs.LostReplies.{loose_lost, lost, lost_lent, lost_nothing}
 use Rattle.dg_run.proofs.Sending.{Sent, sent}
 use Rattle.dg_saved.specs.PathReplies.{has_reply}
 use Rattle.dg_text.specs.LostLines.{TookLost, TookLostPart}
 use Rattle.dg_text.specs.declared.lost_lines.LostLines.{LostLines}
 use Rattle.dg_volume.specs.Volumes.{StepsTo, any_phase}
 use Rattle.dg_run.proofs.lost_files.serve_lost.Goals as goal
-use Rattle.dg_run.proofs.lost_files.serve_lost.Goals.{After-send, After-send_nothing}
+use Rattle.dg_run.proofs.lost_files.serve_lost.Goals.{After-lost_files, After-send, After-send_nothing}
+
+-- what the sink took that was lent for the lines
+lines : (g : _) (c : After-lost_files g) → Lent lost g.K.Sink g.R.Rack c.args.sink.now (λ (s : LostLines g.row.K.Denot). s.sink.now) (TookLost g.K.Sink) (TookLostPart g.K.Sink) c.new-files.result c.lost_files.new.out c.args.array.now
+    (record c.args.array.now { volume = c.lost_files.new.self })
+lines g c = lost_lent g.K.Sink g.R.Rack c.args.sink.now c.new-files.result c.lost_files.new.out c.args.array.now (record c.args.array.now { volume = c.lost_files.new.self }) c.new-files.ensures.sink refl
 
 pub returns-in-Ok-end-clause-answered : goal.returns-in-Ok-end-clause-answered
 returns-in-Ok-end-clause-answered g c =
-    whole_answered (lost_lent g.K.Sink c.args.sink.now c.new-files.result c.new-files.ensures.sink) g.R.Rack c.args.array.now (record c.args.array.now { volume = c.lost_files.new.self }) refl c.lost_files.new.out c.in-Given.n (rw c.in-Given.is at rw c.in-Is.is at c.in-Ok.ensures.steps) c.in-Ok-end.ensures.ok (search rules)
+    whole_answered (lines g (goal.at.returns-in-Ok-end-clause-answered g c).After-lost_files) c.in-Given.n (rw c.in-Given.is at rw c.in-Is.is at c.in-Ok.ensures.steps) c.in-Ok-end.ensures.ok (search rules)
 
 pub returns-in-Ok-cut-clause-answered : goal.returns-in-Ok-cut-clause-answered
 returns-in-Ok-cut-clause-answered g c =
-    cut_answered (lost_lent g.K.Sink c.args.sink.now c.new-files.result c.new-files.ensures.sink) g.R.Rack c.args.array.now (record c.args.array.now { volume = c.lost_files.new.self }) refl c.lost_files.new.out c.in-Cut.n (rw c.in-Cut.is at rw c.in-Is.is at c.in-Ok.ensures.steps) c.in-Ok-cut.ensures.ok (search rules)
+    cut_answered (lines g (goal.at.returns-in-Ok-cut-clause-answered g c).After-lost_files) c.in-Cut.n (rw c.in-Cut.is at rw c.in-Is.is at c.in-Ok.ensures.steps) c.in-Ok-cut.ensures.ok (search rules)
 
 pub returns-in-Err-clause-part : goal.returns-in-Err-clause-part
 returns-in-Err-clause-part g c is =
-    whole_part (lost_lent g.K.Sink c.args.sink.now c.new-files.result c.new-files.ensures.sink) g.R.Rack c.args.array.now (record c.args.array.now { volume = c.lost_files.new.self }) refl c.lost_files.new.out c.in-Given.n (rw c.in-Given.is at rw c.in-Is.is at c.in-Ok.ensures.steps) c.in-Err.ensures.err (search rules)
+    whole_part (lines g (goal.at.returns-in-Err-clause-part g c).After-lost_files) c.in-Given.n (rw c.in-Given.is at rw c.in-Is.is at c.in-Ok.ensures.steps) c.in-Err.ensures.err (search rules)
 
 pub returns-in-Err-cut-clause-part : goal.returns-in-Err-cut-clause-part
 returns-in-Err-cut-clause-part g c is =
-    cut_part (lost_lent g.K.Sink c.args.sink.now c.new-files.result c.new-files.ensures.sink) g.R.Rack c.args.array.now (record c.args.array.now { volume = c.lost_files.new.self }) refl c.lost_files.new.out c.in-Cut.n (rw c.in-Cut.is at rw c.in-Is.is at c.in-Ok.ensures.steps) c.in-Err-cut.ensures.err (search rules)
+    cut_part (lines g (goal.at.returns-in-Err-cut-clause-part g c).After-lost_files) c.in-Cut.n (rw c.in-Cut.is at rw c.in-Is.is at c.in-Ok.ensures.steps) c.in-Err-cut.ensures.err (search rules)
 
 pub returns-in-SinkFault-clause-part : goal.returns-in-SinkFault-clause-part
 returns-in-SinkFault-clause-part g c is =
     let rule = rw c.in-SinkFault.is at rw c.in-Is.is at c.in-Ok.ensures.steps in
-    front_part (lost_lent g.K.Sink c.args.sink.now c.new-files.result c.new-files.ensures.sink) g.R.Rack c.args.array.now (record c.args.array.now { volume = c.lost_files.new.self }) refl c.lost_files.new.out rule.0 rule.1 rule.3 (search rules)
+    front_part (lines g (goal.at.returns-in-SinkFault-clause-part g c).After-lost_files) rule.0 rule.1 rule.3 (search rules)
 
 pub returns-in_default-clause-wanting : goal.returns-in_default-clause-wanting
 returns-in_default-clause-wanting g c is =
-    wanted (lost_lent g.K.Sink c.args.sink.now c.new-files.result c.new-files.ensures.sink) g.R.Rack c.args.array.now (record c.args.array.now { volume = c.lost_files.new.self }) refl c.lost_files.new.out (λ items rest. (items, rest, refl, refl)) c.in_default.ensures.part (search rules)
+    wanted (lines g (goal.at.returns-in_default-clause-wanting g c).After-lost_files) (λ items rest. (items, rest, refl, refl)) c.in_default.ensures.part (search rules)
 
+-- the volume isn't settled
 loose : (g : _) (c : After-send g) → Sent g.K.Sink g.R.Rack LostFiles c.args.sink.now c.send.new.sink c.args.array.now (record c.args.array.now { volume = c.lost_files.new.self }) c.send.result
 loose g c =
     let b = record c.args.array.now { volume = c.lost_files.new.self } in
@@ -55,6 +61,7 @@ returns-in_default-told-clause-part g c = (loose g c).part
 pub returns-in_default-told-clause-lines : goal.returns-in_default-told-clause-lines
 returns-in_default-told-clause-lines g c = (loose g c).lines
 
+-- the reply that gave nothing
 nothing : (g : _) (c : After-send_nothing g) → Sent g.K.Sink g.R.Rack LostFiles c.args.sink.now c.send_nothing.new.sink c.args.array.now (record c.args.array.now { volume = c.lost_files.new.self }) c.send_nothing.result
 nothing g c =
     let b = record c.args.array.now { volume = c.lost_files.new.self } in
@@ -77,12 +84,12 @@ returns-in_default-answer-clause-lines g c = (nothing g c).lines
 pub returns-in-Ok-end-clause-lines : goal.returns-in-Ok-end-clause-lines
 returns-in-Ok-end-clause-lines g c none =
     let rule = rw c.in-Given.is at rw c.in-Is.is at c.in-Ok.ensures.steps in
-    ended_lines (lost_lent g.K.Sink c.args.sink.now c.new-files.result c.new-files.ensures.sink) g.R.Rack c.args.array.now (record c.args.array.now { volume = c.lost_files.new.self }) refl c.lost_files.new.out rule.0 rule.2 c.in-Ok-end.ensures.lines (search rules)
+    ended_lines (lines g (goal.at.returns-in-Ok-end-clause-lines g c).After-lost_files) rule.0 rule.2 c.in-Ok-end.ensures.lines (search rules)
 
 pub returns-in-Ok-cut-clause-lines : goal.returns-in-Ok-cut-clause-lines
 returns-in-Ok-cut-clause-lines g c none =
     let rule = rw c.in-Cut.is at rw c.in-Is.is at c.in-Ok.ensures.steps in
-    ended_lines (lost_lent g.K.Sink c.args.sink.now c.new-files.result c.new-files.ensures.sink) g.R.Rack c.args.array.now (record c.args.array.now { volume = c.lost_files.new.self }) refl c.lost_files.new.out rule.0 rule.2 c.in-Ok-cut.ensures.lines (search rules)
+    ended_lines (lines g (goal.at.returns-in-Ok-cut-clause-lines g c).After-lost_files) rule.0 rule.2 c.in-Ok-cut.ensures.lines (search rules)
 
 pub returns-in_default-clause-lines : goal.returns-in_default-clause-lines
-returns-in_default-clause-lines g c none = wanted_lines (lost_lent g.K.Sink c.args.sink.now c.new-files.result c.new-files.ensures.sink) g.R.Rack c.args.array.now (record c.args.array.now { volume = c.lost_files.new.self }) refl c.lost_files.new.out c.in_default.ensures.part (search rules)
+returns-in_default-clause-lines g c none = wanted_lines (lines g (goal.at.returns-in_default-clause-lines g c).After-lost_files) c.in_default.ensures.part (search rules)

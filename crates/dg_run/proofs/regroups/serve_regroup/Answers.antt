@@ -16,6 +16,7 @@ returns-in_default-clause-goes g c =
     let b = record a { volume = c.regroup.new.self } in
     continues_wanting g.R.Rack g.met.R.Rack.made_none g.met.R.Rack.made_both g.met.R.Rack.after a b c.requires.ready c.in_default.ensures.on c.in_default.ensures.err
 
+-- the reply was sent
 regrouped : (g : _) (c : Joined-regroup_reply g) → Serves g.R.Rack Regroup (g.K.Sink.taken c.args.sink.now) (g.K.Sink.taken c.send.new.sink) c.args.array.now (record c.args.array.now { volume = c.regroup.new.self }) c.send.result
 regrouped g c =
     let a = c.args.array.now in

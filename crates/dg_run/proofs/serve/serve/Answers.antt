@@ -4,6 +4,7 @@ use Rattle.dg_run.proofs.Serving.{Serves, serves}
 use Rattle.dg_run.proofs.serve.serve.Goals as goal
 use Rattle.dg_run.proofs.serve.serve.Goals.{After-serve_cat, After-serve_lost, After-serve_ls, After-serve_pending, After-serve_read, After-serve_tree}
 
+-- what is said of each event that reads
 read : (g : _) (c : After-serve_read g) → Serves g.R.Rack c.args.event.now (g.K.Sink.taken c.args.sink.now) (g.K.Sink.taken c.serve_read.new.sink) c.args.array.now c.serve_read.new.array c.serve_read.result
 read g c = serves g.R.Rack g.met.R.Rack.made_none g.met.R.Rack.made_both g.met.R.Rack.after (Read c.in-Read.b) _ _ c.args.array.now c.serve_read.new.array c.serve_read.result c.in-Read.is
     (goes_read g.R.Rack g.met.R.Rack.made_none g.met.R.Rack.made_both g.met.R.Rack.after (λ bound x y made. made) c.args.array.now c.serve_read.new.array c.requires.ready c.serve_read.ensures.goes) (λ reply. tt) c.serve_read.ensures.answered c.serve_read.ensures.part (λ is. absurd (c.serve_read.ensures.memory is))

@@ -6,6 +6,7 @@ use Rattle.dg_stop.specs.StopRacks.{stop_room}
 use Rattle.dg_run.proofs.serve.serve_plain.Goals as goal
 use Rattle.dg_run.proofs.serve.serve_plain.Goals.{Joined-reply}
 
+-- the reply was sent
 replied : (g : _) (c : Joined-reply g) → Serves g.R.Rack c.args.event.now (g.K.Sink.taken c.args.sink.now) (g.K.Sink.taken c.send.new.sink) c.args.array.now c.reply_to.new.array c.send.result
 replied g c =
     let by = goes_plain g.R.Rack g.met.R.Rack.made_none g.met.R.Rack.made_both g.met.R.Rack.after c.args.event.now c.requires.plain c.args.array.now c.reply_to.new.array c.requires.ready c.reply_to.ensures.goes in

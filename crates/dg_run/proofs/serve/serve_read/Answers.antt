@@ -6,6 +6,7 @@ use Rattle.dg_run.proofs.Sending.{Sent, sent}
 use Rattle.dg_run.proofs.serve.serve_read.Goals as goal
 use Rattle.dg_run.proofs.serve.serve_read.Goals.{After-send, After-send-in-Unavailable, After-send_data}
 
+-- each of the three replies
 got : (g : _) (c : After-send_data g) → Sent g.K.Sink g.R.Rack (Read c.args.b) c.args.sink.now c.send_data.new.sink c.args.array.now (record c.args.array.now { volume = c.read.new.self }) c.send_data.result
 got g c =
     let b = record c.args.array.now { volume = c.read.new.self } in

@@ -5,6 +5,7 @@ use Rattle.dg_run.proofs.Serving.{Serves, serves_reply}
 use Rattle.dg_run.proofs.serve.serve_replace.Goals as goal
 use Rattle.dg_run.proofs.serve.serve_replace.Goals.{Joined-reply}
 
+-- the reply was sent
 replaced : (g : _) (c : Joined-reply g) → Serves g.R.Rack (Replace c.args.s c.args.j) (g.K.Sink.taken c.args.sink.now) (g.K.Sink.taken c.send.new.sink) c.args.array.now c.replace-reply.new.array c.send.result
 replaced g c =
     let r = c.replace-reply in

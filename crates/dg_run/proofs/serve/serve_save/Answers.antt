@@ -5,6 +5,7 @@ use Rattle.dg_run.proofs.Serving.{Serves, serves_reply}
 use Rattle.dg_run.proofs.serve.serve_save.Goals as goal
 use Rattle.dg_run.proofs.serve.serve_save.Goals.{Joined-reply}
 
+-- the reply was sent
 saved : (g : _) (c : Joined-reply g) → Serves g.R.Rack Save (g.K.Sink.taken c.args.sink.now) (g.K.Sink.taken c.send.new.sink) c.args.array.now c.save.new.array c.send.result
 saved g c =
     let by = goes_saved g.R.Rack g.met.R.Rack.made_none g.met.R.Rack.made_both g.met.R.Rack.after c.args.array.now c.save.new.array c.requires.ready c.save.ensures.goes in

@@ -2,7 +2,7 @@ use Rattle.std.proofs.Common.{refl, rules}
 use Rattle.dg_model.specs.declared.events.Event.TheVariants.{Tree}
 use Rattle.dg_model.specs.declared.replies.Reply.TheVariants.{NotSettled}
 use Rattle.dg_run.proofs.ArraySteps.{steps_of}
-use Rattle.dg_run.proofs.ListedReplies.{cut_answered, cut_part, ended_lines, front_part, wanted, wanted_lines, whole_answered, whole_part}
+use Rattle.dg_run.proofs.ListedReplies.{Lent, cut_answered, cut_part, ended_lines, front_part, wanted, wanted_lines, whole_answered, whole_part}
 use Rattle.dg_run.proofs.NodeLines.{lines_lent, nodes}
 use Rattle.dg_run.proofs.PathReplies.{loose_tree, tree_nothing}
 use Rattle.dg_run.proofs.Sending.{Sent, sent}
@@ -12,33 +12,39 @@ use Rattle.dg_text.specs.declared.listing_lines.Lines.{Lines}
 use Rattle.dg_text.specs.declared.listings.Form.TheVariants.{Volume}
 use Rattle.dg_volume.specs.Volumes.{StepsTo, any_phase}
 use Rattle.dg_run.proofs.trees.serve_tree.Goals as goal
-use Rattle.dg_run.proofs.trees.serve_tree.Goals.{After-send, After-send_nothing}
+use Rattle.dg_run.proofs.trees.serve_tree.Goals.{After-send, After-send_nothing, After-tree}
+
+-- what the sink took that was lent for the lines
+lines : (g : _) (c : After-tree g) → Lent nodes g.K.Sink g.R.Rack c.args.sink.now (λ (s : Lines g.row.K.Denot). s.sink.now) (TookEntries g.K.Sink) (TookEntriesPart g.K.Sink) c.new-entries.result c.tree.new.out c.args.array.now
+    (record c.args.array.now { volume = c.tree.new.self })
+lines g c = lines_lent g.K.Sink nodes Volume (λ entries. refl) g.R.Rack c.args.sink.now c.new-entries.result c.tree.new.out c.args.array.now (record c.args.array.now { volume = c.tree.new.self }) c.new-entries.ensures.form c.new-entries.ensures.sink refl
 
 pub returns-in-Ok-end-clause-answered : goal.returns-in-Ok-end-clause-answered
 returns-in-Ok-end-clause-answered g c =
-    whole_answered (lines_lent g.K.Sink nodes Volume (λ entries. refl) c.args.sink.now c.new-entries.result c.new-entries.ensures.form c.new-entries.ensures.sink) g.R.Rack c.args.array.now (record c.args.array.now { volume = c.tree.new.self }) refl c.tree.new.out c.in-Given.n (rw c.in-Given.is at rw c.in-Is.is at c.in-Ok.ensures.steps) c.in-Ok-end.ensures.ok (search rules)
+    whole_answered (lines g (goal.at.returns-in-Ok-end-clause-answered g c).After-tree) c.in-Given.n (rw c.in-Given.is at rw c.in-Is.is at c.in-Ok.ensures.steps) c.in-Ok-end.ensures.ok (search rules)
 
 pub returns-in-Ok-cut-clause-answered : goal.returns-in-Ok-cut-clause-answered
 returns-in-Ok-cut-clause-answered g c =
-    cut_answered (lines_lent g.K.Sink nodes Volume (λ entries. refl) c.args.sink.now c.new-entries.result c.new-entries.ensures.form c.new-entries.ensures.sink) g.R.Rack c.args.array.now (record c.args.array.now { volume = c.tree.new.self }) refl c.tree.new.out c.in-Cut.n (rw c.in-Cut.is at rw c.in-Is.is at c.in-Ok.ensures.steps) c.in-Ok-cut.ensures.ok (search rules)
+    cut_answered (lines g (goal.at.returns-in-Ok-cut-clause-answered g c).After-tree) c.in-Cut.n (rw c.in-Cut.is at rw c.in-Is.is at c.in-Ok.ensures.steps) c.in-Ok-cut.ensures.ok (search rules)
 
 pub returns-in-Err-clause-part : goal.returns-in-Err-clause-part
 returns-in-Err-clause-part g c is =
-    whole_part (lines_lent g.K.Sink nodes Volume (λ entries. refl) c.args.sink.now c.new-entries.result c.new-entries.ensures.form c.new-entries.ensures.sink) g.R.Rack c.args.array.now (record c.args.array.now { volume = c.tree.new.self }) refl c.tree.new.out c.in-Given.n (rw c.in-Given.is at rw c.in-Is.is at c.in-Ok.ensures.steps) c.in-Err.ensures.err (search rules)
+    whole_part (lines g (goal.at.returns-in-Err-clause-part g c).After-tree) c.in-Given.n (rw c.in-Given.is at rw c.in-Is.is at c.in-Ok.ensures.steps) c.in-Err.ensures.err (search rules)
 
 pub returns-in-Err-cut-clause-part : goal.returns-in-Err-cut-clause-part
 returns-in-Err-cut-clause-part g c is =
-    cut_part (lines_lent g.K.Sink nodes Volume (λ entries. refl) c.args.sink.now c.new-entries.result c.new-entries.ensures.form c.new-entries.ensures.sink) g.R.Rack c.args.array.now (record c.args.array.now { volume = c.tree.new.self }) refl c.tree.new.out c.in-Cut.n (rw c.in-Cut.is at rw c.in-Is.is at c.in-Ok.ensures.steps) c.in-Err-cut.ensures.err (search rules)
+    cut_part (lines g (goal.at.returns-in-Err-cut-clause-part g c).After-tree) c.in-Cut.n (rw c.in-Cut.is at rw c.in-Is.is at c.in-Ok.ensures.steps) c.in-Err-cut.ensures.err (search rules)
 
 pub returns-in-SinkFault-clause-part : goal.returns-in-SinkFault-clause-part
 returns-in-SinkFault-clause-part g c is =
     let rule = rw c.in-SinkFault.is at rw c.in-Is.is at c.in-Ok.ensures.steps in
-    front_part (lines_lent g.K.Sink nodes Volume (λ entries. refl) c.args.sink.now c.new-entries.result c.new-entries.ensures.form c.new-entries.ensures.sink) g.R.Rack c.args.array.now (record c.args.array.now { volume = c.tree.new.self }) refl c.tree.new.out rule.0 rule.1 rule.3 (search rules)
+    front_part (lines g (goal.at.returns-in-SinkFault-clause-part g c).After-tree) rule.0 rule.1 rule.3 (search rules)
 
 pub returns-in_default-clause-wanting : goal.returns-in_default-clause-wanting
 returns-in_default-clause-wanting g c is =
-    wanted (lines_lent g.K.Sink nodes Volume (λ entries. refl) c.args.sink.now c.new-entries.result c.new-entries.ensures.form c.new-entries.ensures.sink) g.R.Rack c.args.array.now (record c.args.array.now { volume = c.tree.new.self }) refl c.tree.new.out (λ items rest. (items, rest, refl, refl)) c.in_default.ensures.part (search rules)
+    wanted (lines g (goal.at.returns-in_default-clause-wanting g c).After-tree) (λ items rest. (items, rest, refl, refl)) c.in_default.ensures.part (search rules)
 
+-- the volume isn't settled
 loose : (g : _) (c : After-send g) → Sent g.K.Sink g.R.Rack Tree c.args.sink.now c.send.new.sink c.args.array.now (record c.args.array.now { volume = c.tree.new.self }) c.send.result
 loose g c =
     let b = record c.args.array.now { volume = c.tree.new.self } in
@@ -57,6 +63,7 @@ returns-in_default-told-clause-part g c = (loose g c).part
 pub returns-in_default-told-clause-lines : goal.returns-in_default-told-clause-lines
 returns-in_default-told-clause-lines g c = (loose g c).lines
 
+-- the reply that gave nothing
 nothing : (g : _) (c : After-send_nothing g) → Sent g.K.Sink g.R.Rack Tree c.args.sink.now c.send_nothing.new.sink c.args.array.now (record c.args.array.now { volume = c.tree.new.self }) c.send_nothing.result
 nothing g c =
     let b = record c.args.array.now { volume = c.tree.new.self } in
@@ -79,12 +86,12 @@ returns-in_default-answer-clause-lines g c = (nothing g c).lines
 pub returns-in-Ok-end-clause-lines : goal.returns-in-Ok-end-clause-lines
 returns-in-Ok-end-clause-lines g c none =
     let rule = rw c.in-Given.is at rw c.in-Is.is at c.in-Ok.ensures.steps in
-    ended_lines (lines_lent g.K.Sink nodes Volume (λ entries. refl) c.args.sink.now c.new-entries.result c.new-entries.ensures.form c.new-entries.ensures.sink) g.R.Rack c.args.array.now (record c.args.array.now { volume = c.tree.new.self }) refl c.tree.new.out rule.0 rule.2 c.in-Ok-end.ensures.lines (search rules)
+    ended_lines (lines g (goal.at.returns-in-Ok-end-clause-lines g c).After-tree) rule.0 rule.2 c.in-Ok-end.ensures.lines (search rules)
 
 pub returns-in-Ok-cut-clause-lines : goal.returns-in-Ok-cut-clause-lines
 returns-in-Ok-cut-clause-lines g c none =
     let rule = rw c.in-Cut.is at rw c.in-Is.is at c.in-Ok.ensures.steps in
-    ended_lines (lines_lent g.K.Sink nodes Volume (λ entries. refl) c.args.sink.now c.new-entries.result c.new-entries.ensures.form c.new-entries.ensures.sink) g.R.Rack c.args.array.now (record c.args.array.now { volume = c.tree.new.self }) refl c.tree.new.out rule.0 rule.2 c.in-Ok-cut.ensures.lines (search rules)
+    ended_lines (lines g (goal.at.returns-in-Ok-cut-clause-lines g c).After-tree) rule.0 rule.2 c.in-Ok-cut.ensures.lines (search rules)
 
 pub returns-in_default-clause-lines : goal.returns-in_default-clause-lines
-returns-in_default-clause-lines g c none = wanted_lines (lines_lent g.K.Sink nodes Volume (λ entries. refl) c.args.sink.now c.new-entries.result c.new-entries.ensures.form c.new-entries.ensures.sink) g.R.Rack c.args.array.now (record c.args.array.now { volume = c.tree.new.self }) refl c.tree.new.out c.in_default.ensures.part (search rules)
+returns-in_default-clause-lines g c none = wanted_lines (lines g (goal.at.returns-in_default-clause-lines g c).After-tree) c.in_default.ensures.part (search rules)
