@@ -19,15 +19,19 @@ use Rattle.dg_text.specs.Replies.{reply_line}
 use Rattle.dg_volume.specs.Volumes.{any_phase}
 use Rattle.dg_volume.specs.Volumes as volumes
 
--- The event that asks for a listing, its replies, whole and cut off, and the text of their lines.
+-- A reply of lines with this text, and then one of a word and their number.
+pub record Ending (A : Type 0) (text : List A → List ℕ) : Type 0 where
+  pub word : List ℕ
+  pub reply : List A → Reply
+  pub line : (items : List A) → reply_line (reply items) ≡ (text items ++ (word ++ decimal (length items))) ++ codes "\n"
+
+-- The event that asks for a listing, the text of its lines, and its replies, whole and cut off.
 pub record Listing (A : Type 0) : Type 0 where
   pub event : Event
-  pub whole : List A → Reply
-  pub cut : List A → Reply
   pub text : List A → List ℕ
   pub in_use : (reply : Reply) → StaysInUse event reply
-  pub whole_line : (items : List A) → reply_line (whole items) ≡ (text items ++ (codes "end " ++ decimal (length items))) ++ codes "\n"
-  pub cut_line : (items : List A) → reply_line (cut items) ≡ (text items ++ (codes "cut " ++ decimal (length items))) ++ codes "\n"
+  pub whole : Ending A text
+  pub cut : Ending A text
 
 -- A sink was lent for its lines, as `old`, which was `out` when the array had done (`b`): what that took of them the sink took.
 pub record Lent {A L K R : Type 0} (kind : Listing A) (ghosts : sinks.Ghosts K) (rack : Ghosts R) (sink : K) (sink_of : L → K) (took took_part : L → List A → L → Type 0) (old out : L) (a b : Array R) : Type 0 where
@@ -37,24 +41,6 @@ pub record Lent {A L K R : Type 0} (kind : Listing A) (ghosts : sinks.Ghosts K) 
   pub few : (items : List A) → took old items out → Leaves ghosts (sink_of old) (sink_of out)
   pub hot : b.hot ≡ a.hot
 
--- lines of items, and then the one of this word that ends them
-module _ {A R : Type 0} (rack : Ghosts R) (event : Event) (reply : Reply) (text word : List ℕ) (items : List A) (n : ℕ) (a b : Array R)
-    (is : reply_line reply ≡ (text ++ (word ++ decimal (length items))) ++ codes "\n") (size : length items ≡ n) (steps : StepsTo rack a event reply b)
-    (x y z : Option (List ℕ)) (lines : Told (Took text) x y) where
-  ended : Told (Took (last_line word n)) y z → Answered rack event x z a b
-  ended last = record {
-    reply = reply;
-    steps = steps;
-    output = subst (λ (l : List ℕ). Told (Took l) x z) (sym is) (told_lines text word items n x z size (told_end text (last_line word n) x y z lines last));
-  }
-
-  ended_part : Told (TookPart (last_line word n)) y z → AnsweredPart rack event x z a b
-  ended_part last = record {
-    reply = reply;
-    steps = weaker_steps rack a b event reply steps;
-    output = subst (λ (l : List ℕ). Told (TookPart l) x z) (sym is) (part_lines text word items n x z size (part_end text (last_line word n) x y z lines last));
-  }
-
 module _ {A L K R : Type 0} {kind : Listing A} {ghosts : sinks.Ghosts K} {rack : Ghosts R} {sink : K} {sink_of : L → K} {took took_part : L → List A → L → Type 0} {old out : L}
     {a b : Array R} (by : Lent kind ghosts rack sink sink_of took took_part old out a b) where
   abbrev Steps : Reply → Type 0
@@ -63,62 +49,54 @@ module _ {A L K R : Type 0} {kind : Listing A} {ghosts : sinks.Ghosts K} {rack :
   steps_in : (reply : Reply) → Steps reply → StepsTo rack a kind.event reply b
   steps_in reply steps = steps_of rack a b kind.event reply (kind.in_use reply) by.hot steps
 
-  -- so many items were handed to it, with which the volume answers so
-  abbrev Hands : (List A → Reply) → ℕ → Type 0
-  Hands reply n = (items : List A) × (length items ≡ n) × took old items out × Steps (reply items)
-
   -- all lines were written, and then the one that ends them, or a part of that; the sink came back (`end`)
-  pub whole_answered : {k end : K} (n : ℕ) → Hands kind.whole n → Told (Took (last_line (codes "end ") n)) (ghosts.taken (sink_of out)) (ghosts.taken k) → k ≡ end
-      → Answered rack kind.event (ghosts.taken sink) (ghosts.taken end) a b
-  whole_answered n h last back = subst (λ (s : K). Answered rack kind.event (ghosts.taken sink) (ghosts.taken s) a b) back
-      (ended rack kind.event (kind.whole h.0) (kind.text h.0) (codes "end ") h.0 n a b (kind.whole_line h.0) h.1 (steps_in (kind.whole h.0) h.3) _ _ _ (by.told h.0 h.2) last)
+  module _ {k end : K} (ending : Ending A kind.text) (n : ℕ) (h : (items : List A) × (length items ≡ n) × took old items out × Steps (ending.reply items)) where
+    pub ended : Told (Took (last_line ending.word n)) (ghosts.taken (sink_of out)) (ghosts.taken k) → k ≡ end → Answered rack kind.event (ghosts.taken sink) (ghosts.taken end) a b
+    ended last back = subst (λ (s : K). Answered rack kind.event (ghosts.taken sink) (ghosts.taken s) a b) back (record {
+      reply = ending.reply h.0;
+      steps = steps_in (ending.reply h.0) h.3;
+      output = subst (λ (l : List ℕ). Told (Took l) (ghosts.taken sink) (ghosts.taken k)) (sym (ending.line h.0)) (told_lines (kind.text h.0) ending.word h.0 n _ _ h.1
+          (told_end (kind.text h.0) (last_line ending.word n) _ _ _ (by.told h.0 h.2) last));
+    })
 
-  pub whole_part : {k end : K} (n : ℕ) → Hands kind.whole n → Told (TookPart (last_line (codes "end ") n)) (ghosts.taken (sink_of out)) (ghosts.taken k) → k ≡ end
-      → AnsweredPart rack kind.event (ghosts.taken sink) (ghosts.taken end) a b
-  whole_part n h last back = subst (λ (s : K). AnsweredPart rack kind.event (ghosts.taken sink) (ghosts.taken s) a b) back
-      (ended_part rack kind.event (kind.whole h.0) (kind.text h.0) (codes "end ") h.0 n a b (kind.whole_line h.0) h.1 (steps_in (kind.whole h.0) h.3) _ _ _ (by.told h.0 h.2) last)
-
-  -- the same of a listing that was cut off
-  pub cut_answered : {k end : K} (n : ℕ) → Hands kind.cut n → Told (Took (last_line (codes "cut ") n)) (ghosts.taken (sink_of out)) (ghosts.taken k) → k ≡ end
-      → Answered rack kind.event (ghosts.taken sink) (ghosts.taken end) a b
-  cut_answered n h last back = subst (λ (s : K). Answered rack kind.event (ghosts.taken sink) (ghosts.taken s) a b) back
-      (ended rack kind.event (kind.cut h.0) (kind.text h.0) (codes "cut ") h.0 n a b (kind.cut_line h.0) h.1 (steps_in (kind.cut h.0) h.3) _ _ _ (by.told h.0 h.2) last)
-
-  pub cut_part : {k end : K} (n : ℕ) → Hands kind.cut n → Told (TookPart (last_line (codes "cut ") n)) (ghosts.taken (sink_of out)) (ghosts.taken k) → k ≡ end
-      → AnsweredPart rack kind.event (ghosts.taken sink) (ghosts.taken end) a b
-  cut_part n h last back = subst (λ (s : K). AnsweredPart rack kind.event (ghosts.taken sink) (ghosts.taken s) a b) back
-      (ended_part rack kind.event (kind.cut h.0) (kind.text h.0) (codes "cut ") h.0 n a b (kind.cut_line h.0) h.1 (steps_in (kind.cut h.0) h.3) _ _ _ (by.told h.0 h.2) last)
+    pub ended_part : Told (TookPart (last_line ending.word n)) (ghosts.taken (sink_of out)) (ghosts.taken k) → k ≡ end → AnsweredPart rack kind.event (ghosts.taken sink) (ghosts.taken end) a b
+    ended_part last back = subst (λ (s : K). AnsweredPart rack kind.event (ghosts.taken sink) (ghosts.taken s) a b) back (record {
+      reply = ending.reply h.0;
+      steps = weaker_steps rack a b kind.event (ending.reply h.0) (steps_in (ending.reply h.0) h.3);
+      output = subst (λ (l : List ℕ). Told (TookPart l) (ghosts.taken sink) (ghosts.taken k)) (sym (ending.line h.0)) (part_lines (kind.text h.0) ending.word h.0 n _ _ h.1
+          (part_end (kind.text h.0) (last_line ending.word n) _ _ _ (by.told h.0 h.2) last));
+    })
 
   -- no more often than there are lines, and 255 bytes
   pub ended_lines : {k end : K} (items : List A) → took old items out → Leaves ghosts (sink_of out) k → k ≡ end → Leaves ghosts sink end
   ended_lines items taken last back = lent_both ghosts _ _ (sink_of out) _ _ by.is (by.few items taken) last back
 
   -- the sink failed at a line
-  pub front_part : {end : K} (items : List A) → took_part old items out → Steps (kind.whole items) → sink_of out ≡ end
+  pub front_part : {end : K} (items : List A) → took_part old items out → Steps (kind.whole.reply items) → sink_of out ≡ end
       → AnsweredPart rack kind.event (ghosts.taken sink) (ghosts.taken end) a b
   front_part items taken steps back = subst (λ (s : K). AnsweredPart rack kind.event (ghosts.taken sink) (ghosts.taken s) a b) back (record {
-    reply = kind.whole items;
-    steps = weaker_steps rack a b kind.event (kind.whole items) (steps_in (kind.whole items) steps);
-    output = subst (λ (l : List ℕ). Told (TookPart l) (ghosts.taken sink) (ghosts.taken (sink_of out))) (sym (kind.whole_line items))
-        (part_of_lines (kind.text items) (codes "end ") items _ _ (by.part items taken));
+    reply = kind.whole.reply items;
+    steps = weaker_steps rack a b kind.event (kind.whole.reply items) (steps_in (kind.whole.reply items) steps);
+    output = subst (λ (l : List ℕ). Told (TookPart l) (ghosts.taken sink) (ghosts.taken (sink_of out))) (sym (kind.whole.line items))
+        (part_of_lines (kind.text items) kind.whole.word items _ _ (by.part items taken));
   })
 
   -- memory was wanting: it took nothing, or the lines of the first items
   abbrev HandsFirst : Type 0
-  HandsFirst = (out ≡ old) ⊎ ((items : List A) × (rest : List A) × took old items out × Steps (kind.whole (items ++ rest)))
+  HandsFirst = (out ≡ old) ⊎ ((items : List A) × (rest : List A) × took old items out × Steps (kind.whole.reply (items ++ rest)))
 
-  wanted_then : ((items : List A) (rest : List A) → BeginsLines kind.event (kind.whole (items ++ rest)) (kind.text items)) → HandsFirst
+  wanted_then : ((items : List A) (rest : List A) → BeginsLines kind.event (kind.whole.reply (items ++ rest)) (kind.text items)) → HandsFirst
       → WantedFor rack kind.event (ghosts.taken sink) (ghosts.taken (sink_of out)) a b
   wanted_then begins (inl same) = inl (ap (λ (l : L). ghosts.taken (sink_of l)) same ∙ ap ghosts.taken by.is)
   wanted_then begins (inr some) = inr (inr (record {
-    reply = kind.whole (some.0 ++ some.1);
+    reply = kind.whole.reply (some.0 ++ some.1);
     text = kind.text some.0;
     lines = begins some.0 some.1;
-    steps = weaker_steps rack a b kind.event (kind.whole (some.0 ++ some.1)) (steps_in (kind.whole (some.0 ++ some.1)) some.3);
+    steps = weaker_steps rack a b kind.event (kind.whole.reply (some.0 ++ some.1)) (steps_in (kind.whole.reply (some.0 ++ some.1)) some.3);
     output = by.told some.0 some.2;
   }))
 
-  pub wanted : {end : K} → ((items : List A) (rest : List A) → BeginsLines kind.event (kind.whole (items ++ rest)) (kind.text items)) → HandsFirst → sink_of out ≡ end
+  pub wanted : {end : K} → ((items : List A) (rest : List A) → BeginsLines kind.event (kind.whole.reply (items ++ rest)) (kind.text items)) → HandsFirst → sink_of out ≡ end
       → WantedFor rack kind.event (ghosts.taken sink) (ghosts.taken end) a b
   wanted begins h back = subst (λ (s : K). WantedFor rack kind.event (ghosts.taken sink) (ghosts.taken s) a b) back (wanted_then begins h)
 

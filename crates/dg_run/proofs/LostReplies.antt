@@ -1,5 +1,6 @@
 -- What was written of the files that lost blocks.
 use Rattle.std.proofs.Common.{◌≡◌, ℕ, List, refl, subst}
+use Rattle.std.specs.Prelude.{codes}
 use Rattle.dg_io.specs.Told.{Told, Took, TookPart}
 use Rattle.dg_io.specs.declared.outside.Rack.{Ghosts}
 use Rattle.dg_io.specs.declared.outside.Sink as sinks
@@ -40,7 +41,13 @@ loose_lost took took_part faults old new holds TreeNotSettled other rule = rule
 
 -- their listing, and the sink that was lent for its lines
 abbrev pub lost : Listing PathOf
-lost = record { event = LostFiles; whole = LostFilesReply; cut = LostFilesCut; text = lost_text; in_use = λ reply. tt; whole_line = λ files. refl; cut_line = λ files. refl }
+lost = record {
+  event = LostFiles;
+  text = lost_text;
+  in_use = λ reply. tt;
+  whole = record { word = codes "end "; reply = LostFilesReply; line = λ files. refl };
+  cut = record { word = codes "cut "; reply = LostFilesCut; line = λ files. refl };
+}
 
 pub lost_lent : {K R : Type 0} (ghosts : sinks.Ghosts K) (rack : Ghosts R) (sink : K) (old out : LostLines K) (a b : Array R) → old.sink.now ≡ sink → b.hot ≡ a.hot
     → Lent lost ghosts rack sink (λ (s : LostLines K). s.sink.now) (TookLost ghosts) (TookLostPart ghosts) old out a b

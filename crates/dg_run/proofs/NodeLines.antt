@@ -1,5 +1,6 @@
 -- Listings of entries, and the sink that was lent for their lines.
 use Rattle.std.proofs.Common.{◌≡◌, ◌∙◌, ℕ, List, ap, refl, subst}
+use Rattle.std.specs.Prelude.{codes}
 use Rattle.dg_io.specs.Told.{Told, Took, TookPart}
 use Rattle.dg_io.specs.declared.outside.Rack.{Ghosts}
 use Rattle.dg_io.specs.declared.outside.Sink as sinks
@@ -16,12 +17,23 @@ use Rattle.ufs_model.specs.Listings.{Listed}
 
 -- of all directories
 abbrev pub nodes : Listing Listed
-nodes = record { event = Tree; whole = Nodes; cut = NodesCut; text = nodes_text; in_use = λ reply. tt; whole_line = λ entries. refl; cut_line = λ entries. refl }
+nodes = record {
+  event = Tree;
+  text = nodes_text;
+  in_use = λ reply. tt;
+  whole = record { word = codes "end "; reply = Nodes; line = λ entries. refl };
+  cut = record { word = codes "cut "; reply = NodesCut; line = λ entries. refl };
+}
 
 -- of one
 abbrev pub entries_at : List ℕ → Listing Listed
-entries_at path =
-    record { event = Ls path; whole = ListedReply; cut = ListedCut; text = entries_text; in_use = λ reply. tt; whole_line = λ entries. refl; cut_line = λ entries. refl }
+entries_at path = record {
+  event = Ls path;
+  text = entries_text;
+  in_use = λ reply. tt;
+  whole = record { word = codes "end "; reply = ListedReply; line = λ entries. refl };
+  cut = record { word = codes "cut "; reply = ListedCut; line = λ entries. refl };
+}
 
 -- the lines have the form of the listing
 pub lines_lent : {K R : Type 0} (ghosts : sinks.Ghosts K) (kind : Listing Listed) (form : Form) → ((entries : List Listed) → lines_in form entries ≡ kind.text entries) → (rack : Ghosts R) (sink : K)

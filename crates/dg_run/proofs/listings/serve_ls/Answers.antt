@@ -1,7 +1,7 @@
 use Rattle.std.proofs.Common.{refl, rules}
 use Rattle.dg_model.specs.declared.events.Event.TheVariants.{Ls}
 use Rattle.dg_run.proofs.ArraySteps.{steps_of}
-use Rattle.dg_run.proofs.ListedReplies.{Lent, cut_answered, cut_part, ended_lines, front_part, whole_answered, whole_part}
+use Rattle.dg_run.proofs.ListedReplies.{Lent, ended, ended_lines, ended_part, front_part}
 use Rattle.dg_run.proofs.NodeLines.{entries_at, lines_lent}
 use Rattle.dg_run.proofs.Sending.{Sent, sent}
 use Rattle.dg_saved.specs.PathReplies.{has_reply, ls_nothing}
@@ -19,19 +19,19 @@ lines g c = lines_lent g.K.Sink (entries_at c.args.path.now) Directory (λ entri
 
 pub returns-in-Ok-clause-answered : goal.returns-in-Ok-clause-answered
 returns-in-Ok-clause-answered g c =
-    whole_answered (lines g (goal.at.returns-in-Ok-clause-answered g c).After-ls) c.in-Given.n (rw c.as_slice.ensures at c.in-Given.ensures.steps) c.in-Ok.ensures.ok (search rules)
+    ended (lines g (goal.at.returns-in-Ok-clause-answered g c).After-ls) (entries_at c.args.path.now).whole c.in-Given.n (rw c.as_slice.ensures at c.in-Given.ensures.steps) c.in-Ok.ensures.ok (search rules)
 
 pub returns-in-Ok-cut-clause-answered : goal.returns-in-Ok-cut-clause-answered
 returns-in-Ok-cut-clause-answered g c =
-    cut_answered (lines g (goal.at.returns-in-Ok-cut-clause-answered g c).After-ls) c.in-Cut.n (rw c.as_slice.ensures at c.in-Cut.ensures.steps) c.in-Ok-cut.ensures.ok (search rules)
+    ended (lines g (goal.at.returns-in-Ok-cut-clause-answered g c).After-ls) (entries_at c.args.path.now).cut c.in-Cut.n (rw c.as_slice.ensures at c.in-Cut.ensures.steps) c.in-Ok-cut.ensures.ok (search rules)
 
 pub returns-in-Err-clause-part : goal.returns-in-Err-clause-part
 returns-in-Err-clause-part g c is =
-    whole_part (lines g (goal.at.returns-in-Err-clause-part g c).After-ls) c.in-Given.n (rw c.as_slice.ensures at c.in-Given.ensures.steps) c.in-Err.ensures.err (search rules)
+    ended_part (lines g (goal.at.returns-in-Err-clause-part g c).After-ls) (entries_at c.args.path.now).whole c.in-Given.n (rw c.as_slice.ensures at c.in-Given.ensures.steps) c.in-Err.ensures.err (search rules)
 
 pub returns-in-Err-cut-clause-part : goal.returns-in-Err-cut-clause-part
 returns-in-Err-cut-clause-part g c is =
-    cut_part (lines g (goal.at.returns-in-Err-cut-clause-part g c).After-ls) c.in-Cut.n (rw c.as_slice.ensures at c.in-Cut.ensures.steps) c.in-Err-cut.ensures.err (search rules)
+    ended_part (lines g (goal.at.returns-in-Err-cut-clause-part g c).After-ls) (entries_at c.args.path.now).cut c.in-Cut.n (rw c.as_slice.ensures at c.in-Cut.ensures.steps) c.in-Err-cut.ensures.err (search rules)
 
 pub returns-in-SinkFault-clause-part : goal.returns-in-SinkFault-clause-part
 returns-in-SinkFault-clause-part g c is =

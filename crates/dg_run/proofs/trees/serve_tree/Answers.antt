@@ -2,7 +2,7 @@ use Rattle.std.proofs.Common.{refl, rules}
 use Rattle.dg_model.specs.declared.events.Event.TheVariants.{Tree}
 use Rattle.dg_model.specs.declared.replies.Reply.TheVariants.{NotSettled}
 use Rattle.dg_run.proofs.ArraySteps.{steps_of}
-use Rattle.dg_run.proofs.ListedReplies.{Lent, cut_answered, cut_part, ended_lines, front_part, wanted, wanted_lines, whole_answered, whole_part}
+use Rattle.dg_run.proofs.ListedReplies.{Lent, ended, ended_lines, ended_part, front_part, wanted, wanted_lines}
 use Rattle.dg_run.proofs.NodeLines.{lines_lent, nodes}
 use Rattle.dg_run.proofs.PathReplies.{loose_tree, tree_nothing}
 use Rattle.dg_run.proofs.Sending.{Sent, sent}
@@ -21,19 +21,19 @@ lines g c = lines_lent g.K.Sink nodes Volume (λ entries. refl) g.R.Rack c.args.
 
 pub returns-in-Ok-end-clause-answered : goal.returns-in-Ok-end-clause-answered
 returns-in-Ok-end-clause-answered g c =
-    whole_answered (lines g (goal.at.returns-in-Ok-end-clause-answered g c).After-tree) c.in-Given.n (rw c.in-Given.is at rw c.in-Is.is at c.in-Ok.ensures.steps) c.in-Ok-end.ensures.ok (search rules)
+    ended (lines g (goal.at.returns-in-Ok-end-clause-answered g c).After-tree) nodes.whole c.in-Given.n (rw c.in-Given.is at rw c.in-Is.is at c.in-Ok.ensures.steps) c.in-Ok-end.ensures.ok (search rules)
 
 pub returns-in-Ok-cut-clause-answered : goal.returns-in-Ok-cut-clause-answered
 returns-in-Ok-cut-clause-answered g c =
-    cut_answered (lines g (goal.at.returns-in-Ok-cut-clause-answered g c).After-tree) c.in-Cut.n (rw c.in-Cut.is at rw c.in-Is.is at c.in-Ok.ensures.steps) c.in-Ok-cut.ensures.ok (search rules)
+    ended (lines g (goal.at.returns-in-Ok-cut-clause-answered g c).After-tree) nodes.cut c.in-Cut.n (rw c.in-Cut.is at rw c.in-Is.is at c.in-Ok.ensures.steps) c.in-Ok-cut.ensures.ok (search rules)
 
 pub returns-in-Err-clause-part : goal.returns-in-Err-clause-part
 returns-in-Err-clause-part g c is =
-    whole_part (lines g (goal.at.returns-in-Err-clause-part g c).After-tree) c.in-Given.n (rw c.in-Given.is at rw c.in-Is.is at c.in-Ok.ensures.steps) c.in-Err.ensures.err (search rules)
+    ended_part (lines g (goal.at.returns-in-Err-clause-part g c).After-tree) nodes.whole c.in-Given.n (rw c.in-Given.is at rw c.in-Is.is at c.in-Ok.ensures.steps) c.in-Err.ensures.err (search rules)
 
 pub returns-in-Err-cut-clause-part : goal.returns-in-Err-cut-clause-part
 returns-in-Err-cut-clause-part g c is =
-    cut_part (lines g (goal.at.returns-in-Err-cut-clause-part g c).After-tree) c.in-Cut.n (rw c.in-Cut.is at rw c.in-Is.is at c.in-Ok.ensures.steps) c.in-Err-cut.ensures.err (search rules)
+    ended_part (lines g (goal.at.returns-in-Err-cut-clause-part g c).After-tree) nodes.cut c.in-Cut.n (rw c.in-Cut.is at rw c.in-Is.is at c.in-Ok.ensures.steps) c.in-Err-cut.ensures.err (search rules)
 
 pub returns-in-SinkFault-clause-part : goal.returns-in-SinkFault-clause-part
 returns-in-SinkFault-clause-part g c is =
