@@ -47,21 +47,30 @@ module _ {R : Type 0} (rack : Ghosts R) where
       → volumes.StepsBy any_phase any_phase rack touch a.volume event reply b.volume → StepsTo rack a event reply b
   steps_by touch a b event reply in_use hot steps origin state st = goes_on touch a b event reply state in_use st hot (steps origin state st.volume)
 
-  -- the same of a volume that says it of states with a block for each of the array's
-  pub steps_sized : (a b : Array R) (event : Event) (reply : Reply) → StaysInUse event reply → b.hot ≡ a.hot
-      → volumes.StepsSized any_phase any_phase rack a.volume event reply b.volume → StepsTo rack a event reply b
-  steps_sized a b event reply in_use hot steps origin state st =
-      goes_on (λ recent. recent) a b event reply state in_use st hot (steps origin state st.volume (st.sized ∙ ap (λ (s : State). s.table.shape.n) st.volume.is))
+  -- the same of an event and a reply that are known to be these
+  known_as : (a b : Array R) {event e : Event} {reply r : Reply} → event ≡ e → reply ≡ r → StepsTo rack a e r b → StepsTo rack a event reply b
+  known_as a b {event = event} {r = r} is told steps =
+      subst (λ (y : Reply). StepsTo rack a event y b) (sym told) (subst (λ (x : Event). StepsTo rack a x r b) (sym is) steps)
+
+  -- of a volume that says it of states with a block for each of the array's
+  pub steps_sized : (a b : Array R) {event e : Event} {reply r : Reply} → event ≡ e → reply ≡ r → StaysInUse e r → b.hot ≡ a.hot
+      → volumes.StepsSized any_phase any_phase rack a.volume e r b.volume → StepsTo rack a event reply b
+  steps_sized a b {e = e} {r = r} is told in_use hot steps = known_as a b is told (λ origin state st.
+      goes_on (λ recent. recent) a b e r state in_use st hot (steps origin state st.volume (st.sized ∙ ap (λ (s : State). s.table.shape.n) st.volume.is)))
 
   -- and of one that says it of states in which just these inodes were read last
-  pub steps_hot : (a b : Array R) (event : Event) (reply : Reply) → StaysInUse event reply → b.hot ≡ a.hot
-      → StepsHot any_phase any_phase rack a.hot a.volume event reply b.volume → StepsTo rack a event reply b
-  steps_hot a b event reply in_use hot steps origin state st = goes_on (λ recent. recent) a b event reply state in_use st hot (steps origin state st.volume st.recent)
+  pub steps_hot : (a b : Array R) {event e : Event} {reply r : Reply} → event ≡ e → reply ≡ r → StaysInUse e r → b.hot ≡ a.hot
+      → StepsHot any_phase any_phase rack a.hot a.volume e r b.volume → StepsTo rack a event reply b
+  steps_hot a b {e = e} {r = r} is told in_use hot steps = known_as a b is told (λ origin state st. goes_on (λ recent. recent) a b e r state in_use st hot (steps origin state st.volume st.recent))
 
   -- a step that changed none of them
   pub steps_of : (a b : Array R) (event : Event) (reply : Reply) → StaysInUse event reply → b.hot ≡ a.hot
       → volumes.StepsTo any_phase any_phase rack a.volume event reply b.volume → StepsTo rack a event reply b
   steps_of a b event reply in_use hot steps = steps_by (λ recent. recent) a b event reply in_use hot steps
+
+  pub steps_as : (a b : Array R) {event e : Event} {reply r : Reply} → event ≡ e → reply ≡ r → StaysInUse e r → b.hot ≡ a.hot
+      → volumes.StepsTo any_phase any_phase rack a.volume e r b.volume → StepsTo rack a event reply b
+  steps_as a b {e = e} {r = r} is told in_use hot steps = known_as a b is told (steps_of a b e r in_use hot steps)
 
   -- the step of the volume alone
   pub volume_steps : (touch : List ℕ → List ℕ) (a b : Array R) (event : Event) (reply : Reply)

@@ -9,13 +9,12 @@ use Rattle.dg_io.specs.Told.{Told, Took, TookPart}
 use Rattle.dg_io.specs.declared.outside.Rack.{Ghosts}
 use Rattle.dg_model.specs.Lists.{AreLines}
 use Rattle.dg_model.proofs.Lined.{in_lines}
-use Rattle.dg_model.specs.declared.events.Event.TheVariants.{Cat, Ls}
-use Rattle.dg_model.specs.declared.replies.Reply.TheVariants.{Given, Listed as ListedReply}
+use Rattle.dg_model.specs.declared.events.Event.TheVariants.{Cat}
+use Rattle.dg_model.specs.declared.replies.Reply.TheVariants.{Given}
 use Rattle.dg_run.specs.declared.arrays.Array.{Array}
 use Rattle.dg_text.specs.HexLines.{InLines, last_line}
-use Rattle.dg_text.specs.Replies.{bytes_line, entries_text, file_text, reply_line}
+use Rattle.dg_text.specs.Replies.{bytes_line, file_text, reply_line}
 use Rattle.dg_text.specs.ToldSteps.{took_both, took_part_after, took_part_of_more}
-use Rattle.ufs_model.specs.Listings.{Listed}
 use Rattle.dg_run.specs.Steps.{AnsweredPart, VolumeStepsTo}
 use Rattle.dg_run.proofs.Inputs.{All-head, All-tail}
 
@@ -91,8 +90,3 @@ module _ {R : Type 0} (rack : Ghosts R) where
         steps = gives all (more_are l lines rest.lines some split.full rest.are) whole;
         output = part_of_file lines rest.lines x y told;
       }
-
-  -- the sink failed at the entries of a directory
-  pub listing_part : (path : List ℕ) (entries : List Listed) (x y : Option (List ℕ)) (a b : Array R) → VolumeStepsTo rack a (Ls path) (ListedReply entries) b
-      → Told (TookPart (entries_text entries)) x y → AnsweredPart rack (Ls path) x y a b
-  listing_part path entries x y a b steps told = record { reply = ListedReply entries; steps = steps; output = part_of_lines (entries_text entries) (codes "end ") entries x y told }

@@ -16,11 +16,12 @@ use Rattle.dg_model.specs.declared.events.Event.TheVariants.{Array, Safe, Parity
 use Rattle.dg_model.specs.declared.replies.Reply.{Reply}
 use Rattle.dg_model.specs.declared.replies.Reply.TheVariants.{Lost, NotParity, NotSaved, Saved}
 use Rattle.dg_regroup.specs.LiveRacks.{is_there, live_counts, live_in}
+use Rattle.dg_regroup.specs.declared.live_racks.LiveRack.{LiveRack}
 use Rattle.dg_run.proofs.Continuing.{told_volume}
 use Rattle.dg_run.proofs.Laters.{GoesBy, later_went}
 use Rattle.dg_run.proofs.Segments.{by_place, there_by}
 use Rattle.dg_run.specs.Courses.{AnswersBy, AreInUse, Course, Leading, Standing, Went}
-use Rattle.dg_run.specs.Histories.{EventAnswered, EventCut, EventDone, EventListed, EventWanted, IsReady, KnownBy, Running, RunsTo, VolumeRunsTo, standing_of, below_of, boundaries_of, live_of, on_pairs, running}
+use Rattle.dg_run.specs.Histories.{EventAnswered, EventCut, EventDone, EventListed, EventWanted, IsReady, KnownBy, Leads, Running, RunsTo, VolumeRunsTo, standing_of, below_of, boundaries_of, live_of, on_pairs, running}
 use Rattle.dg_run.specs.Plain.{IsOfPairs}
 use Rattle.dg_run.specs.Replays.{HoldsInUse}
 use Rattle.dg_run.specs.Steps.{Answered, AnsweredBefore, AnsweredPart, Known, ListedBefore, StandsIn, StepsTo, VolumeStepsTo, WantedFor, rack_of}
@@ -29,6 +30,7 @@ use Rattle.dg_stop.specs.StopRacks.{stop_bytes, stop_counts, stop_room, stop_wor
 use Rattle.dg_stop.specs.Ties.{plain_rise}
 use Rattle.dg_stop.specs.declared.stop_racks.StopRack.{StopRack}
 use Rattle.dg_volume.specs.HeldLaws.{holds_all}
+use Rattle.dg_volume.specs.Origins.{Origin, WasHeld}
 use Rattle.dg_volume.specs.Volumes.{any_phase}
 use Rattle.dg_volume.specs.Volumes as volumes
 
@@ -198,31 +200,33 @@ module _ {R : Type 0} (rack : Ghosts R) (none : (s : R) → rack.made s [] s) (b
     by (DropDisk s j) r o h = h
     by (MendDisk s j) r o h = h
 
+  led_by : (Stands : Type 0 → State → Type 0) (a b : Running R) (event : Event) (reply : Reply) → GoesBy rack event a b → IsOfPairs a event reply (stop_room (below_of a))
+      → (origin : Origin (LiveRack (StopRack R))) (state next : State) → StandsIn (running rack) (WasHeld (running rack) origin) a state → Stands (WasHeld (running rack) origin) next
+      → volumes.StandsIn any_phase (running rack) (WasHeld (running rack) origin) b.volume next → Step (Known (WasHeld (running rack) origin) (running rack) b) state event reply next
+      → Leads rack Stands origin state a b (event ∷ []) (reply ∷ [])
+  led_by Stands a b event reply goes pairs origin state next st stands volume step = record {
+    after = origin;
+    next = next;
+    stands = stands;
+    known = λ tells held. held;
+    course = (
+      standing_of b next,
+      leads_on a b event reply state next goes volume (pairs_in a state event reply (stop_room (below_of a)) st pairs) (step_less (known_of b goes.on.ready) state event reply next step),
+      refl,
+    );
+  }
+
   pub runs_of : (a b : Running R) (event : Event) (reply : Reply) → GoesBy rack event a b → IsOfPairs a event reply (stop_room (below_of a)) → StepsTo (running rack) a event reply b
       → RunsTo rack a (event ∷ []) (reply ∷ []) b
   runs_of a b event reply goes pairs steps origin state st =
       let one = steps origin state st in
-      let answers = pairs_in a state event reply (stop_room (below_of a)) st pairs in
-      record {
-        after = origin;
-        next = one.0;
-        stands = one.1;
-        known = λ tells held. held;
-        course = (standing_of b one.0, leads_on a b event reply state one.0 goes one.1.volume answers (step_less (known_of b goes.on.ready) state event reply one.0 one.2), refl);
-      }
+      led_by (λ P next. StandsIn (running rack) P b next) a b event reply goes pairs origin state one.0 st one.1 one.1.volume one.2
 
   pub volume_runs_of : (a b : Running R) (event : Event) (reply : Reply) → GoesBy rack event a b → IsOfPairs a event reply (stop_room (below_of a)) → VolumeStepsTo (running rack) a event reply b
       → VolumeRunsTo rack a (event ∷ []) (reply ∷ []) b
   volume_runs_of a b event reply goes pairs steps origin state st =
       let one = steps origin state st in
-      let answers = pairs_in a state event reply (stop_room (below_of a)) st pairs in
-      record {
-        after = origin;
-        next = one.0;
-        stands = one.1;
-        known = λ tells held. held;
-        course = (standing_of b one.0, leads_on a b event reply state one.0 goes one.1 answers (step_less (known_of b goes.on.ready) state event reply one.0 one.2), refl);
-      }
+      led_by (λ P next. volumes.StandsIn any_phase (running rack) P b.volume next) a b event reply goes pairs origin state one.0 st one.1 one.1 one.2
 
   pub weaker_runs : (a b : Running R) (events : List Event) (replies : List Reply) → RunsTo rack a events replies b → VolumeRunsTo rack a events replies b
   weaker_runs a b events replies runs origin state st =

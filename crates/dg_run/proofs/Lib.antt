@@ -13,6 +13,7 @@ mod Inputs
 mod Laters
 mod LentLines
 mod LineFeeds
+mod ListedReplies
 mod LostReplies
 mod NodeLines
 mod Opening
@@ -26,6 +27,8 @@ mod Regrouping
 mod Resuming
 mod Runs
 mod Segments
+mod Sending
+mod Serving
 mod SourceSteps
 mod ToldSteps
 mod Whole

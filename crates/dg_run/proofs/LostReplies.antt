@@ -1,22 +1,21 @@
 -- What was written of the files that lost blocks.
-use Rattle.std.proofs.Common.{◌≡◌, ◌∙◌, ◌++◌, ℕ, List, ap, inl, inr, refl, subst}
+use Rattle.std.proofs.Common.{◌≡◌, ℕ, List, refl, subst}
+use Rattle.std.specs.Prelude.{codes}
 use Rattle.dg_io.specs.Told.{Told, Took, TookPart}
 use Rattle.dg_io.specs.declared.outside.Rack.{Ghosts}
 use Rattle.dg_io.specs.declared.outside.Sink as sinks
 use Rattle.dg_model.specs.Paths.{PathOf}
 use Rattle.dg_model.specs.declared.events.Event.TheVariants.{LostFiles}
 use Rattle.dg_model.specs.declared.replies.Reply.{Reply}
-use Rattle.dg_model.specs.declared.replies.Reply.TheVariants.{LostFiles as LostFilesReply, NotSettled}
-use Rattle.dg_run.proofs.ArraySteps.{steps_of, weaker_steps}
+use Rattle.dg_model.specs.declared.replies.Reply.TheVariants.{LostFiles as LostFilesReply, LostFilesCut, NotSettled}
+use Rattle.dg_run.proofs.ListedReplies.{Lent, Listing}
 use Rattle.dg_run.proofs.PathReplies.{reply_is}
-use Rattle.dg_run.specs.Steps.{WantedFor}
 use Rattle.dg_run.specs.declared.arrays.Array.{Array}
 use Rattle.dg_saved.specs.PathReplies.{HasReply}
 use Rattle.dg_text.specs.LostLines.{TookLost, TookLostPart}
 use Rattle.dg_text.specs.Replies.{lost_text}
 use Rattle.dg_text.specs.declared.lost_lines.LostLines.{LostLines}
-use Rattle.dg_volume.specs.LostFiles.{AnswersLost, AnswersLostAny, HandsFiles}
-use Rattle.dg_volume.specs.Volumes.{StepsTo, any_phase}
+use Rattle.dg_volume.specs.LostFiles.{AnswersLost, AnswersLostAny}
 use Rattle.dg_volume.specs.declared.settled_paths.TreeAnswer.{TreeAnswer}
 use Rattle.dg_volume.specs.declared.settled_paths.TreeAnswer.TheVariants.{Is as TreeIs, NotSettled as TreeNotSettled}
 use Rattle.ufs_path.specs.declared.faults.CatAnswer.{CatAnswer}
@@ -40,26 +39,22 @@ pub loose_lost : {S : Type 0} (took took_part : S → List PathOf → S → Type
 loose_lost took took_part faults old new holds (TreeIs answer) other rule = absurd (other answer refl)
 loose_lost took took_part faults old new holds TreeNotSettled other rule = rule
 
--- a sink was lent for their lines
-module _ {K : Type 0} (ghosts : sinks.Ghosts K) (sink : K) (lent : LostLines K) (is : lent.sink.now ≡ sink) where
-  -- it took the lines of these files
-  pub lost_told : (files : List PathOf) (out : LostLines K) → TookLost ghosts lent files out → Told (Took (lost_text files)) (ghosts.taken sink) (ghosts.taken out.sink.now)
-  lost_told files out took = subst (λ (k : K). Told (Took (lost_text files)) (ghosts.taken k) (ghosts.taken out.sink.now)) is took.told
+-- their listing, and the sink that was lent for its lines
+abbrev pub lost : Listing PathOf
+lost = record {
+  event = LostFiles;
+  text = lost_text;
+  in_use = λ reply. tt;
+  whole = record { word = codes "end "; reply = LostFilesReply; line = λ files. refl };
+  cut = record { word = codes "cut "; reply = LostFilesCut; line = λ files. refl };
+}
 
-  -- or a part of them
-  pub lost_part : (files : List PathOf) (out : LostLines K) → TookLostPart ghosts lent files out → Told (TookPart (lost_text files)) (ghosts.taken sink) (ghosts.taken out.sink.now)
-  lost_part files out took = subst (λ (k : K). Told (TookPart (lost_text files)) (ghosts.taken k) (ghosts.taken out.sink.now)) is took.told
-
-  -- memory was wanting: it took nothing, or the lines of the first files
-  pub lost_wanted : {R : Type 0} (rack : Ghosts R) (a b : Array R) (out : LostLines K) → b.hot ≡ a.hot
-      → HandsFiles (TookLost ghosts) lent out (λ reply. StepsTo any_phase any_phase rack a.volume LostFiles reply b.volume) → WantedFor rack LostFiles (ghosts.taken sink) (ghosts.taken out.sink.now) a b
-  lost_wanted rack a b out hot (inl same) = inl (ap (λ (l : LostLines K). ghosts.taken l.sink.now) same ∙ ap ghosts.taken is)
-  lost_wanted rack a b out hot (inr some) =
-      let reply = LostFilesReply (some.0 ++ some.1) in
-      inr (inr (record {
-        reply = reply;
-        text = lost_text some.0;
-        lines = (some.0, some.1, refl, refl);
-        steps = weaker_steps rack a b LostFiles reply (steps_of rack a b LostFiles reply tt hot some.3);
-        output = lost_told some.0 out some.2;
-      }))
+pub lost_lent : {K R : Type 0} (ghosts : sinks.Ghosts K) (rack : Ghosts R) (sink : K) (old out : LostLines K) (a b : Array R) → old.sink.now ≡ sink → b.hot ≡ a.hot
+    → Lent lost ghosts rack sink (λ (s : LostLines K). s.sink.now) (TookLost ghosts) (TookLostPart ghosts) old out a b
+lost_lent {K = K} ghosts rack sink old out a b is hot = record {
+  is = is;
+  told = λ files took. subst (λ (k : K). Told (Took (lost_text files)) (ghosts.taken k) (ghosts.taken out.sink.now)) is took.told;
+  part = λ files took. subst (λ (k : K). Told (TookPart (lost_text files)) (ghosts.taken k) (ghosts.taken out.sink.now)) is took.told;
+  few = λ files took. took.few_lines;
+  hot = hot;
+}

@@ -37,7 +37,7 @@ use Rattle.dg_run.specs.Events.{Begins, IsRefused}
 use Rattle.dg_run.specs.Lines.{Served, ServedTo}
 use Rattle.dg_run.specs.Endings.{TookUpTo}
 use Rattle.dg_run.specs.Refusals.{IsRefusedBy}
-use Rattle.dg_run.specs.Replays.{CutRefusal, HoldsInUse, IsCut, IsNoInput, OthersKept, Ran, ReplayedBy, Stopped, StoppedBy, StopsAt, TellsBoundaries, shape_after}
+use Rattle.dg_run.specs.Replays.{CutRefusalBy, HoldsInUse, IsCut, IsNoInput, OthersKept, Ran, ReplayedBy, Stopped, StoppedBy, StopsAt, TellsBoundaries, shape_after}
 use Rattle.dg_run.specs.Arrays.{AllAnswered, AnsweredTo, ArrayReplayed, ArrayStopped, IsCutAt}
 use Rattle.dg_run.proofs.Inputs.{All-head, All-right, no_line}
 use Rattle.dg_volume.specs.Origins.{Always}
@@ -313,7 +313,7 @@ stopped_first now bytes tells kind x z t v refused output = record {
 }
 
 -- the same, but its refusal was written in part
-pub cut_first : (now : Counts) (bytes : ℕ → Option (List ℕ)) (tells : ℕ → Type 0) (kind : Kind) (x z t v : Option (List ℕ)) → Told (λ before after. IsNoFirst kind before) x z → Told (TookPart (refusal 1 kind)) t v → CutRefusal now now bytes bytes tells x z t v
+pub cut_first : (now : Counts) (bytes : ℕ → Option (List ℕ)) (tells : ℕ → Type 0) (kind : Kind) (x z t v : Option (List ℕ)) → Told (λ before after. IsNoFirst kind before) x z → Told (TookPart (refusal 1 kind)) t v → CutRefusalBy (Ran now now bytes bytes tells) x z t v
 cut_first now bytes tells kind x z t v refused output = record {
   events = [];
   replies = [];

@@ -137,14 +137,6 @@ abbrev pub BrokeOff : Counts → Counts → (ℕ → Option (List ℕ)) → (ℕ
     → Option (List ℕ) → Type 0
 BrokeOff before now images bytes tells left rest taken given = BrokeOffBy (Ran before now images bytes tells) left rest taken given
 
-abbrev pub CutReply : Counts → Counts → (ℕ → Option (List ℕ)) → (ℕ → Option (List ℕ)) → (ℕ → Type 0) → Option (List ℕ) → Option (List ℕ) → Option (List ℕ)
-    → Option (List ℕ) → Type 0
-CutReply before now images bytes tells left rest taken given = CutReplyBy (Ran before now images bytes tells) left rest taken given
-
-abbrev pub CutRefusal : Counts → Counts → (ℕ → Option (List ℕ)) → (ℕ → Option (List ℕ)) → (ℕ → Type 0) → Option (List ℕ) → Option (List ℕ) → Option (List ℕ)
-    → Option (List ℕ) → Type 0
-CutRefusal before now images bytes tells left rest taken given = CutRefusalBy (Ran before now images bytes tells) left rest taken given
-
 abbrev pub IsCut : Counts → Counts → (ℕ → Option (List ℕ)) → (ℕ → Option (List ℕ)) → (ℕ → Type 0) → Option (List ℕ) → Option (List ℕ) → Option (List ℕ)
     → Option (List ℕ) → Type 0
 IsCut before now images bytes tells left rest taken given = IsCutBy (Ran before now images bytes tells) left rest taken given

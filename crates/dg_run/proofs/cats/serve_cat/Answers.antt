@@ -1,5 +1,5 @@
 use Rattle.std.proofs.Common.{◌≡◌, ◌∙◌, ◌<◌, ◌++◌, ℕ, List, ap, arith, inl, inr, length, refl, rules, subst}
-use Rattle.std.specs.Prelude.{OnErr, OnOk, Option, codes}
+use Rattle.std.specs.Prelude.{Option, codes}
 use Rattle.std.specs.List.{concat}
 use Rattle.dg_io.specs.Told.{Told, Took, TookPart}
 use Rattle.dg_model.specs.Lists.{AreLines}
@@ -7,11 +7,10 @@ use Rattle.dg_model.specs.declared.events.Event.TheVariants.{Cat}
 use Rattle.dg_model.specs.declared.phases.Phase.{Phase}
 use Rattle.dg_model.specs.declared.replies.Reply.TheVariants.{Cut, Given}
 use Rattle.dg_model.specs.declared.shapes.Shape.{Shape}
-use Rattle.dg_run.proofs.Answers.{answered, answered_part, at_err, at_ok}
 use Rattle.dg_run.proofs.ArraySteps.{steps_by, steps_of, volume_steps, weaker_steps}
 use Rattle.dg_run.proofs.FileParts.{file_part, part_lines, told_lines}
-use Rattle.dg_run.proofs.LentLines.{Leaves, lent}
-use Rattle.dg_run.specs.declared.events.Fault.TheVariants.{Write}
+use Rattle.dg_run.proofs.LentLines.{lent}
+use Rattle.dg_run.proofs.Sending.{Sent, sent}
 use Rattle.dg_saved.specs.PathReplies.{cat_nothing, has_reply}
 use Rattle.dg_run.specs.Steps.{shape_of}
 use Rattle.dg_text.specs.HexLines.{InLines, TookBytes, TookBytesPart, last_line}
@@ -19,6 +18,7 @@ use Rattle.dg_text.specs.Replies.{file_text, reply_line}
 use Rattle.dg_text.specs.declared.hex_lines.HexLines.{HexLines}
 use Rattle.dg_volume.specs.Volumes.{StepsBy, StepsTo, any_phase, given_of, phase_of, touched_by}
 use Rattle.dg_run.proofs.cats.serve_cat.Goals as goal
+use Rattle.dg_run.proofs.cats.serve_cat.Goals.{After-send_nothing}
 
 pub returns-in-Ok-touch-clause-answered : goal.returns-in-Ok-touch-clause-answered
 returns-in-Ok-touch-clause-answered g c =
@@ -123,31 +123,27 @@ returns-in-SinkFault-clause-part g c = λ is.
     (subst (λ (p : List ℕ). StepsBy any_phase any_phase g.R.Rack touch a.volume (Cat p) (Given all) c.cat.new.self) c.as_slice.ensures (rule.3 all are whole)))
     (subst (λ k. Told (TookPart (file_text file.lines)) (g.K.Sink.taken c.args.sink.now) (g.K.Sink.taken k)) (search rules) told)
 
-pub returns-in_default : goal.returns-in_default
-returns-in_default g c =
+-- the reply that gave nothing
+nothing : (g : _) (c : After-send_nothing g) → Sent g.K.Sink g.R.Rack (Cat c.args.path.now) c.args.sink.now c.send_nothing.new.sink c.args.array.now (record c.args.array.now { volume = c.cat.new.self }) c.send_nothing.result
+nothing g c =
     let a = c.args.array.now in
     let b = record a { volume = c.cat.new.self } in
-    let event = Cat c.args.path.now in
     let has = has_reply c.cat.result c.in_default.not-Given c.in_default.not-Cut c.in_default.not-SinkFault in
     let rule = cat_nothing (TookBytes g.K.Sink) (TookBytesPart g.K.Sink) (λ (s : HexLines g.row.K.Denot). g.K.Sink.faults s.sink.now) c.new-lines.result c.cat.new.out
     (shape_of a).l (λ reply. StepsBy any_phase any_phase g.R.Rack (touched_by (phase_of any_phase a.volume) (given_of c.cat.new.self)) a.volume (Cat c.as_slice.result.now) reply c.cat.new.self)
     (λ reply. StepsTo any_phase any_phase g.R.Rack a.volume (Cat c.as_slice.result.now) reply c.cat.new.self) c.cat.result has c.cat.ensures.steps in
-    let step = subst (λ (p : List ℕ). StepsTo any_phase any_phase g.R.Rack a.volume (Cat p) has.reply c.cat.new.self) c.as_slice.ensures rule.1 in
-    let steps = steps_of g.R.Rack a b event has.reply tt refl step in
-    let ok = subst (λ k. OnOk c.send_nothing.result (Told (Took (reply_line has.reply)) (g.K.Sink.taken k) (g.K.Sink.taken c.send_nothing.new.sink))) (search (rules, rule.0)) (c.send_nothing.ensures.ok has.reply has.is) in
-    let err = subst (λ k. OnErr c.send_nothing.result (Told (TookPart (reply_line has.reply)) (g.K.Sink.taken k) (g.K.Sink.taken c.send_nothing.new.sink))) (search (rules, rule.0)) (c.send_nothing.ensures.part has.reply has.is) in
-    let sent = subst (λ k. OnOk c.send_nothing.result (Leaves g.K.Sink k c.send_nothing.new.sink)) (search (rules, rule.0)) c.send_nothing.ensures.lines in
-    record {
-      goes = search rules;
-      answered = answered g.R.Rack event has.reply _ _ a b c.send_nothing.result steps ok;
-      part = λ is. at_err c.send_nothing.result _ is (answered_part g.R.Rack event has.reply _ _ a b c.send_nothing.result (weaker_steps g.R.Rack a b event has.reply steps) err);
-      wanting = search rules;
-      later = search rules;
-      kept = search rules;
-      lines = at_ok c.send_nothing.result Write c.send_nothing.ensures.err sent;
-      read = search rules;
-      write = search rules;
-    }
+    let s = c.send_nothing in
+    sent g.K.Sink g.R.Rack (Cat c.args.path.now) has.reply a b s.result (steps_of g.R.Rack a b (Cat c.args.path.now) has.reply tt refl (rw c.as_slice.ensures at rule.1))
+    (s.ensures.ok has.reply has.is) (s.ensures.part has.reply has.is) s.ensures.err s.ensures.lines (search (rules, rule.0))
+
+pub returns-in_default-clause-answered : goal.returns-in_default-clause-answered
+returns-in_default-clause-answered g c = (nothing g c).answered
+
+pub returns-in_default-clause-part : goal.returns-in_default-clause-part
+returns-in_default-clause-part g c = (nothing g c).part
+
+pub returns-in_default-clause-lines : goal.returns-in_default-clause-lines
+returns-in_default-clause-lines g c = (nothing g c).lines
 
 pub returns-in-Ok-touch-clause-lines : goal.returns-in-Ok-touch-clause-lines
 returns-in-Ok-touch-clause-lines g c none =

@@ -1,6 +1,5 @@
 use Rattle.std.proofs.Common.{◌≡◌, ◌∙◌, ◌^◌, ℕ, List, ap, refl, subst}
 use Rattle.std.specs.Prelude.{Err, None, Option}
-use Rattle.dg_model.specs.declared.events.Event.{Event}
 use Rattle.dg_model.specs.declared.events.Event.TheVariants.{Array as MakeArray}
 use Rattle.dg_io.specs.Told.{Told}
 use Rattle.dg_text.specs.Lines.{IsInPlace, longest}
@@ -12,12 +11,19 @@ use Rattle.dg_run.proofs.Breaks.{awaits_left}
 use Rattle.dg_run.proofs.Broken.{broke_off_first, fresh_is, ran_out_next, wants_array}
 use Rattle.dg_run.proofs.Whole.{IfOk-map, empty_part, refused_part, replay_done, replay_empty, replay_refused, replay_stopped}
 use Rattle.dg_run.proofs.replays.replay.Goals as goal
+use Rattle.dg_run.proofs.replays.replay.Goals.{In-Ok-Event-Array-default}
+
+-- the first line makes the array
+made : (g : _) (c : In-Ok-Event-Array-default g) → Told (Begins None (MakeArray c.in-Ok-Event-Array-default.shape)) (ahead c.in_ok-input.input (g.S.Source.left c.args.source.now)) (ahead c.take_event.new.input (g.S.Source.left c.take_event.new.source))
+made g c =
+    let arm = c.in-Ok-Event-Array-default in
+    let e = rw arm.field-0-is at arm.ensures in
+    rw arm.field-0-0-is at e.took
 
 pub returns-in-Ok-Event-Array-default-clause-done : goal.returns-in-Ok-Event-Array-default-clause-done
 returns-in-Ok-Event-Array-default-clause-done g c =
     let arm = c.in-Ok-Event-Array-default in
-    let e = rw arm.field-0-is at arm.ensures in
-    let line = subst (λ (event : Event). Told (Begins None event) (ahead c.in_ok-input.input (g.S.Source.left c.args.source.now)) (ahead c.take_event.new.input (g.S.Source.left c.take_event.new.source))) arm.field-0-0-is e.took in
+    let line = made g (goal.at.returns-in-Ok-Event-Array-default-clause-done g c).In-Ok-Event-Array-default in
     IfOk-map c.replay_array.result _ _ (λ end h is. replay_done (unread c.in_ok-input.input) (unread c.replay_array.new.input) c.in_ok-input.ensures
     (g.S.Source.left c.args.source.now) (g.S.Source.left c.replay_array.new.source) (g.K.Sink.taken c.args.sink.now) (g.K.Sink.taken c.replay_array.new.sink)
     (Ran (g.R.Rack.counts c.args.rack) (g.R.Rack.counts end.rack) (g.R.Rack.bytes c.args.rack) (g.R.Rack.bytes end.rack) (g.R.Rack.tells end.rack)) (MakeArray arm.shape) arm.shape (λ events. refl) _ line (h is)) c.replay_array.ensures.done
@@ -25,8 +31,7 @@ returns-in-Ok-Event-Array-default-clause-done g c =
 pub returns-in-Ok-Event-Array-default-clause-bad_line : goal.returns-in-Ok-Event-Array-default-clause-bad_line
 returns-in-Ok-Event-Array-default-clause-bad_line g c =
     let arm = c.in-Ok-Event-Array-default in
-    let e = rw arm.field-0-is at arm.ensures in
-    let line = subst (λ (event : Event). Told (Begins None event) (ahead c.in_ok-input.input (g.S.Source.left c.args.source.now)) (ahead c.take_event.new.input (g.S.Source.left c.take_event.new.source))) arm.field-0-0-is e.took in
+    let line = made g (goal.at.returns-in-Ok-Event-Array-default-clause-bad_line g c).In-Ok-Event-Array-default in
     IfOk-map c.replay_array.result _ _ (λ end h is. replay_stopped (unread c.in_ok-input.input) (unread c.replay_array.new.input) c.in_ok-input.ensures
     (g.S.Source.left c.args.source.now) (g.S.Source.left c.replay_array.new.source) (g.K.Sink.taken c.args.sink.now) (g.K.Sink.taken c.replay_array.new.sink)
     (Ran (g.R.Rack.counts c.args.rack) (g.R.Rack.counts end.rack) (g.R.Rack.bytes c.args.rack) (g.R.Rack.bytes end.rack) (g.R.Rack.tells end.rack)) (MakeArray arm.shape) arm.shape (λ events. refl) _ line (h is)) c.replay_array.ensures.bad_line
@@ -48,26 +53,23 @@ returns-in-Ok-Refused-clause-bad_line g c is =
 pub returns-in-Ok-Event-Array-default-clause-broken : goal.returns-in-Ok-Event-Array-default-clause-broken
 returns-in-Ok-Event-Array-default-clause-broken g c =
     let arm = c.in-Ok-Event-Array-default in
-    let e = rw arm.field-0-is at arm.ensures in
-    let line = subst (λ (event : Event). Told (Begins None event) (ahead c.in_ok-input.input (g.S.Source.left c.args.source.now)) (ahead c.take_event.new.input (g.S.Source.left c.take_event.new.source))) arm.field-0-0-is e.took in
+    let line = made g (goal.at.returns-in-Ok-Event-Array-default-clause-broken g c).In-Ok-Event-Array-default in
     IfOk-map c.replay_array.result _ _ (λ end h is. subst (λ (x : Option (List ℕ)). BrokeOff (g.R.Rack.counts c.args.rack) (g.R.Rack.counts end.rack) (g.R.Rack.bytes c.args.rack) (g.R.Rack.bytes end.rack) (g.R.Rack.tells end.rack) x (g.S.Source.left c.replay_array.new.source) (g.K.Sink.taken c.args.sink.now) (g.K.Sink.taken c.replay_array.new.sink))
     (fresh_is (unread c.in_ok-input.input) (g.S.Source.left c.args.source.now) c.in_ok-input.ensures) (h is (ahead c.in_ok-input.input (g.S.Source.left c.args.source.now)) line)) c.replay_array.ensures.broken
 
 pub returns-in-Ok-Event-Array-default-clause-part : goal.returns-in-Ok-Event-Array-default-clause-part
 returns-in-Ok-Event-Array-default-clause-part g c =
     let arm = c.in-Ok-Event-Array-default in
-    let e = rw arm.field-0-is at arm.ensures in
-    let line = subst (λ (event : Event). Told (Begins None event) (ahead c.in_ok-input.input (g.S.Source.left c.args.source.now)) (ahead c.take_event.new.input (g.S.Source.left c.take_event.new.source))) arm.field-0-0-is e.took in
+    let line = made g (goal.at.returns-in-Ok-Event-Array-default-clause-part g c).In-Ok-Event-Array-default in
     IfOk-map c.replay_array.result _ _ (λ end h is. subst (λ (x : Option (List ℕ)). IsCut (g.R.Rack.counts c.args.rack) (g.R.Rack.counts end.rack) (g.R.Rack.bytes c.args.rack) (g.R.Rack.bytes end.rack) (g.R.Rack.tells end.rack) x (g.S.Source.left c.replay_array.new.source) (g.K.Sink.taken c.args.sink.now) (g.K.Sink.taken c.replay_array.new.sink))
     (fresh_is (unread c.in_ok-input.input) (g.S.Source.left c.args.source.now) c.in_ok-input.ensures) (h is (ahead c.in_ok-input.input (g.S.Source.left c.args.source.now)) line)) c.replay_array.ensures.part
 
 pub returns-in-Ok-Event-Array-default-clause-wanting : goal.returns-in-Ok-Event-Array-default-clause-wanting
 returns-in-Ok-Event-Array-default-clause-wanting g c =
     let arm = c.in-Ok-Event-Array-default in
-    let e = rw arm.field-0-is at arm.ensures in
-    let line = subst (λ (event : Event). Told (Begins None event) (ahead c.in_ok-input.input (g.S.Source.left c.args.source.now)) (ahead c.take_event.new.input (g.S.Source.left c.take_event.new.source))) arm.field-0-0-is e.took in
+    let line = made g (goal.at.returns-in-Ok-Event-Array-default-clause-wanting g c).In-Ok-Event-Array-default in
     IfOk-map c.replay_array.result _ _ (λ end h is. subst (λ (x : Option (List ℕ)). RanOut (g.R.Rack.counts c.args.rack) (g.R.Rack.tells end.rack) x (g.S.Source.left c.replay_array.new.source) (g.K.Sink.taken c.args.sink.now) (g.K.Sink.taken c.replay_array.new.sink))
-    (fresh_is (unread c.in_ok-input.input) (g.S.Source.left c.args.source.now) c.in_ok-input.ensures) (h is (ahead c.in_ok-input.input (g.S.Source.left c.args.source.now)) line e.whole)) c.replay_array.ensures.wanting
+    (fresh_is (unread c.in_ok-input.input) (g.S.Source.left c.args.source.now) c.in_ok-input.ensures) (h is (ahead c.in_ok-input.input (g.S.Source.left c.args.source.now)) line (rw arm.field-0-is at arm.ensures).whole)) c.replay_array.ensures.wanting
 
 pub returns-in-Ok-Event-Array-default-clause-none : goal.returns-in-Ok-Event-Array-default-clause-none
 returns-in-Ok-Event-Array-default-clause-none g c =
