@@ -1,7 +1,7 @@
 -- A listing answers an event: what a sink took of its lines, to which it was lent.
 use Rattle.std.proofs.Common.{◌≡◌, ◌⊎◌, ◌∙◌, ◌++◌, ℕ, List, ap, inl, inr, length, subst, sym}
 use Rattle.std.specs.Fmt.{decimal}
-use Rattle.std.specs.Prelude.{Option, codes}
+use Rattle.std.specs.Prelude.{codes}
 use Rattle.dg_io.specs.Told.{Told, Took, TookPart}
 use Rattle.dg_io.specs.SinkLines.{lines_none}
 use Rattle.dg_io.specs.declared.outside.Rack.{Ghosts}
