@@ -108,7 +108,7 @@ pub record DropsAt {S R : Type 0} (rack : Ghosts R) (n s j : ℕ) (old new : Vol
   pub drops : DropsDisk n (place_of old s) j (rack.disks (rack_of old)) (rack.disks (rack_of new)) answer
   pub members : FailsWhere (drop_loses answer) (place_of old s) (members_of old) (members_of new)
 
--- the same of a mending, of a boundary that isn't lost
+-- The same of a mending, of a boundary that isn't lost. Where the disk wasn't out, the disks (`mends.idle`) and the members are as they were.
 pub record MendsAt {S R : Type 0} (rack : Ghosts R) (n s j : ℕ) (old new : Volume S R) (answer : MendAnswer) : Type 0 where
   pub disk : HasDisk n s j old
   pub live : is_lost_in old s ≡ false
