@@ -2,5 +2,6 @@ mod GroupedLemmas
 mod LiveGroupLemmas
 mod LiveLemmas
 mod OpenedLemmas
+mod PlaceLemmas
 mod ReadyLemmas
 mod RoomLemmas

@@ -1,8 +1,8 @@
 -- What calls leave of volumes over the boundaries in use of racks of groups of disks, also calls that take lost boundaries out of use.
-use Rattle.std.proofs.Common.{◌≡◌, ◌∙◌, ◌≤◌, ◌<◌, ◌+◌, ◌-◌, ◌*◌, ◌/◌, ◌%◌, ◌==◌, ◌++◌, ◌∷◌, ℕ, zero, suc, Bool, true, false, cond, List, [], ap, arith, get_or, length, length-append, nat_lt, refl, subst, sym}
+use Rattle.std.proofs.Common.{◌≡◌, ◌∙◌, ◌≤◌, ◌<◌, ◌+◌, ◌-◌, ◌*◌, ◌/◌, ◌%◌, ◌==◌, ℕ, Bool, true, false, List, [], ap, arith, get_or, length, nat_lt, refl, subst, sym}
 use Rattle.std.specs.Global.{Vec}
 use Rattle.std.specs.Int.{bit_at}
-use Rattle.std.specs.List.{filter, range_with_len}
+use Rattle.std.specs.List.{filter}
 use Rattle.std.specs.Prelude.{Option, Some, None, IfSome, if◌then◌else◌}
 use Rattle.std.proofs.Math.Nat.{mul-add-mod_self_left}
 use Rattle.std.proofs.lemmas.Bool.Decides.{nat_tests}
@@ -22,12 +22,10 @@ use Rattle.dg_parity.specs.Arrays.{Grouped}
 use Rattle.dg_parity.specs.ParityRacks.{IsNew, groups_in, made_by, parity_bytes, parity_words, width_in}
 use Rattle.dg_parity.specs.declared.parity_racks.ParityRack.{ParityRack}
 use Rattle.dg_parity.specs.declared.parity_racks.ParityRack.TheVariants.{OfGroups, Plain}
-use Rattle.dg_regroup.proofs.LiveDisks.{first_groups}
 use Rattle.dg_regroup.specs.LiveGhosts.{live}
 use Rattle.dg_regroup.specs.LiveMade.{calls_below}
 use Rattle.dg_regroup.specs.LiveRacks.{DropsBoundaries, is_there, live_bytes, live_count, live_groups, live_in, live_left, live_width, rack_in}
 use Rattle.dg_regroup.specs.declared.live_racks.LiveRack.{LiveRack}
-use Rattle.dg_store.proofs.LeftPlaces.{left_below, left_front, left_push}
 use Rattle.dg_store.specs.Stores as stores
 use Rattle.dg_volume.specs.Disks.{AreSingle, LeavesDisks}
 use Rattle.dg_volume.specs.Regroups.{AnswersRegroup, GoesOn, TakesOut}
@@ -41,36 +39,8 @@ use Rattle.dg_volume.specs.declared.volumes.Volume.{Volume}
 use Rattle.dg_volume_tests.specs.Grouped.{IsOfLiveGroups}
 use Rattle.dg_volume_tests.proofs.GroupedLemmas.{new_groups, out_by, second_bytes}
 use Rattle.dg_volume_tests.proofs.LiveLemmas.{TellNames, all_ready}
+use Rattle.dg_volume_tests.proofs.PlaceLemmas.{first_groups, front_passes, left_below, left_front, no_longer}
 use Rattle.dg_volume_tests.proofs.ReadyLemmas.{regrouped_ready, stays_ready}
-
--- ---- lists
-
--- each of the first b elements passes, so at least so many do
-front_passes : (p : ℕ → Bool) (xs : List ℕ) (b : ℕ) → b ≤ length xs → ((i : ℕ) → i < b → p (get_or xs i 0) ≡ true) → b ≤ length (filter p xs)
-front_passes p xs zero few all = omega arith
-front_passes p [] (suc b) few all = absurd (omega (arith, few))
-front_passes p (x ∷ xs) (suc b) few all =
-    let first : p x ≡ true = all 0 (omega arith) in
-    let more = front_passes p xs b (omega (arith, few)) (λ i low. all (suc i) (omega (arith, low))) in
-    rw first (omega (arith, more))
-
-one_longer : (xs all : List ℕ) (pass : Bool) (x most : ℕ) → all ≡ xs ++ cond pass (x ∷ []) [] → length xs ≤ most → length all ≤ suc most
-one_longer xs all true x most is few = omega (arith, ap length is, length-append xs (x ∷ []), few)
-one_longer xs all false x most is few = omega (arith, ap length is, length-append xs [], few)
-
--- of k numbers more no more than k pass
-no_longer : (p : ℕ → Bool) (m k n : ℕ) → n ≡ m + k → length (filter p (range_with_len 0 n)) ≤ length (filter p (range_with_len 0 m)) + k
-no_longer p m zero n e =
-    let same : m ≡ n = omega (arith, e) in
-    subst (λ (i : ℕ). length (filter p (range_with_len 0 i)) ≤ length (filter p (range_with_len 0 m)) + 0) same (omega arith)
-no_longer p m (suc k) zero e = absurd (omega (arith, e))
-no_longer p m (suc k) (suc n) e =
-    let few = no_longer p m k n (omega (arith, e)) in
-    let more = one_longer (filter p (range_with_len 0 n)) (filter p (range_with_len 0 (suc n))) (p n) n (length (filter p (range_with_len 0 m)) + k) (left_push p n) few in
-    less _ (length (filter p (range_with_len 0 m))) k more
-  where
-    less : (all front k : ℕ) → all ≤ suc (front + k) → all ≤ front + suc k
-    less all front k few = omega (arith, few)
 
 -- ---- what calls leave
 
