@@ -21,16 +21,31 @@ def script(name):
     return module
 
 
-def libraries_of(top):
-    """The libraries of a repository that others may stand on, with what each names in crates.txt, lowest first."""
+def named_in(top):
+    """The crates of a repository, with what each names in crates.txt, lowest first."""
     found = {}
     with open(f"{top}/crates.txt") as lines:
         for line in lines:
             name, _, below = line.split("#")[0].strip().partition(":")
             if name:
                 found[name] = below.split()
+    return found
+
+
+def libraries_of(top):
+    """The libraries of a repository that others may stand on, with those that each names, lowest first."""
+    found = named_in(top)
     is_library = {it: os.path.isfile(f"{top}/crates/{it}/src/lib.rt") and not it.endswith("_tests") for it in found}
     return {it: [dep for dep in below if dep in found] for it, below in found.items() if is_library[it]}
+
+
+def usable(below):
+    """Built libraries over built libraries alone."""
+    names = set()
+    for library in below:
+        if library.is_built() and all(it.name in names for it in library.deps):
+            names.add(library.name)
+    return names
 
 
 def stamp_of(top, name):

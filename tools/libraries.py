@@ -38,15 +38,18 @@ def prove_one(clone, name):
 
 class Lanes:
     """The libraries that are proved, and those that are being proved."""
+    word = "proved"
 
-    def __init__(self, folder, count):
+    def __init__(self, folder, count, top=TOP, names=None):
+        """Those of the repository at this top, or some of them, which stand on no other ones."""
+        os.makedirs(folder, exist_ok=True)
         self.folder, self.proved = folder, f"{folder}/proved"
         self.clones = [f"{folder}/lane{i}" for i in range(count)]
         for clone in (self.proved, *self.clones):
             if not os.path.isdir(clone):
-                subprocess.run(["git", "clone", "-q", TOP, clone], check=True)
-            subprocess.run(["git", "-C", clone, "pull", "-q", "--ff-only", TOP, "HEAD"], check=True)
-        self.below = kit.libraries_of(self.proved)
+                subprocess.run(["git", "clone", "-q", top, clone], check=True)
+            subprocess.run(["git", "-C", clone, "pull", "-q", "--ff-only", top, "HEAD"], check=True)
+        self.below = {it: below for it, below in kit.libraries_of(self.proved).items() if names is None or it in names}
         self.turn, self.ended, self.started = threading.Condition(), {}, set()
 
     def chain(self, name):
@@ -81,21 +84,19 @@ class Lanes:
             if ran.returncode == 0:
                 kit.hand_library(clone, self.proved, name)
                 kit.hand_kept(clone, self.proved, name)
-            print(f"{name}: {'proved' if ran.returncode == 0 else f'NOT PROVED: {log.name}'}, {time.monotonic() - start:.0f} s", flush=True)
+            print(f"{name}: {self.word if ran.returncode == 0 else f'NOT PROVED: {log.name}'}, {time.monotonic() - start:.0f} s", flush=True)
             with self.turn:
                 self.ended[name] = ran.returncode == 0
                 self.turn.notify_all()
 
-
-def prove(folder, count):
-    os.makedirs(folder, exist_ok=True)
-    lanes = Lanes(os.path.abspath(folder), count)
-    threads = [threading.Thread(target=lanes.work, args=(clone,)) for clone in lanes.clones]
-    for it in threads:
-        it.start()
-    for it in threads:
-        it.join()
-    sys.exit(not all(lanes.ended.get(it) for it in lanes.below))
+    def run(self):
+        """Whether all could be proved."""
+        threads = [threading.Thread(target=self.work, args=(clone,)) for clone in self.clones]
+        for it in threads:
+            it.start()
+        for it in threads:
+            it.join()
+        return all(self.ended.get(it) for it in self.below)
 
 
 def take(gate, clone):
@@ -124,7 +125,7 @@ def take(gate, clone):
 
 def main(verb="", *words):
     if verb == "prove" and len(words) in (1, 2):
-        prove(words[0], int(words[1]) if len(words) == 2 else os.cpu_count())
+        sys.exit(not Lanes(os.path.abspath(words[0]), int(words[1]) if len(words) == 2 else os.cpu_count()).run())
     elif verb == "hand" and len(words) >= 2:
         folder, clone, *crates = words
         for name in kit.libraries_of(f"{folder}/proved"):

@@ -16,19 +16,10 @@ import kit
 TOP = os.path.dirname(os.path.dirname(os.path.abspath(__file__)))
 
 
-def usable(below):
-    """Built libraries over built libraries alone."""
-    names = set()
-    for library in below:
-        if library.is_built() and all(it.name in names for it in library.deps):
-            names.add(library.name)
-    return names
-
-
 def words_of(crate):
     """The flags of `rattle check` that name what the crate stands on."""
     below = crate.below()
-    built = usable(below)
+    built = kit.usable(below)
     of_kit = dict.fromkeys(["core", *crate.of_kit, *(name for it in below for name in it.of_kit)])
     root = next(it for it in ("src/lib.rt", "src/main.rt") if os.path.isfile(f"{crate.folder}/{it}"))
     words = ["--crate-name", crate.name, root]
