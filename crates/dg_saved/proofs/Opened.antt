@@ -9,44 +9,45 @@ use Rattle.dg_model.specs.declared.events.Event.{Event}
 use Rattle.dg_model.specs.declared.replies.Reply.{Reply}
 use Rattle.dg_saved.specs.Calls.{Facts}
 use Rattle.dg_saved.specs.Ends.{EndsEvent, EndsStatus, Printed, PrintedPart}
-use Rattle.dg_saved.specs.OpeningLaws.{at_first, facts, is_opened, known_now, origin, others, source}
+use Rattle.dg_saved.specs.OpeningLaws.{at_first, facts, is_opened, known_now, live_is, origin, others, source}
 use Rattle.dg_saved.specs.Saved.{HasRun, HasShown, HasSource, OthersKept, RunsFrom}
 use Rattle.dg_saved.specs.Serves.{EndsServed, Steps}
 use Rattle.dg_saved.specs.Texts.{array_text, status_text}
 use Rattle.dg_saved.specs.declared.ends.SavedEnd.{SavedEnd}
 use Rattle.dg_saved.specs.declared.ends.SavedEnd.TheVariants.{Done, NoState, Refused, Unclean, WriteFault}
+use Rattle.dg_volume.specs.Besides.{AnswersBytes}
 use Rattle.dg_volume.specs.HeldLaws.{holds_all, own_still}
-use Rattle.dg_volume.specs.Opens.{HasOpened}
-use Rattle.dg_volume.specs.Volumes.{Leaves, any_phase, members_of, phase_of, rack_of, table_of}
+use Rattle.dg_volume.specs.Volumes.{Leaves, any_phase, live_of, members_of, phase_of, rack_of, table_of}
+use Rattle.dg_volume.specs.declared.opens.OpenAnswer.TheVariants.{Opened}
 use Rattle.dg_volume.specs.declared.phases.AnyPhase.{AnyPhase}
 use Rattle.dg_volume.specs.declared.volumes.Volume.{Volume}
 
 -- ---- one event
 
-module _ {R : Type 0} (rack : Ghosts R) (before : R) (volume new : Volume AnyPhase R) (hot : List ℕ) (taken given : Option (List ℕ))
-    (opened : HasOpened rack before volume hot) (leaves : Leaves any_phase any_phase rack volume new) where
+module _ {R : Type 0} (rack : Ghosts R) (room : R → Option ℕ) (extra : List ℕ) (before : R) (volume new : Volume AnyPhase R) (hot : List ℕ) (taken given : Option (List ℕ))
+    (answers : AnswersBytes rack room before extra (Opened volume hot)) (leaves : Leaves any_phase any_phase rack volume new) where
   -- what was met outside, what the rack tells in the end, and what it was opened from
   abbrev was : Facts
-  was = facts rack before volume new hot taken given opened leaves
+  was = facts rack room extra before volume new hot taken given answers leaves
 
   abbrev told : ℕ → Type 0
   told = rack.tells (rack_of new)
 
   abbrev from : HasSource was (rack.counts (rack_of volume))
-  from = source rack before volume new hot taken given opened leaves
+  from = source rack room extra before volume new hot taken given answers leaves
 
-  abbrev kept : OthersKept was opened.saved.table
-  kept = others rack before volume new hot taken given opened leaves
+  abbrev kept : OthersKept was answers.answers.opened.saved.table
+  kept = others rack room extra before volume new hot taken given answers leaves
 
   -- with these blocks
   runs_from : (event : Event) (reply : Reply) → Steps rack volume event reply new → (V : List (List ℕ)) → RunsFrom told was (rack.counts (rack_of volume)) from event reply V
   runs_from event reply steps V =
-      let at = at_first rack before volume new hot taken given opened leaves V in
-      let one = steps (origin rack before volume new hot taken given opened leaves V) at.state at.stands in
-      let all = known_now rack before volume new hot taken given opened leaves V in
+      let at = at_first rack room extra before volume new hot taken given answers leaves V in
+      let one = steps (origin rack room extra before volume new hot taken given answers leaves V) at.state at.stands in
+      let all = known_now rack room extra before volume new hot taken given answers leaves V in
       record {
         state = at.state;
-        is = is_opened rack before volume new hot taken given opened leaves V;
+        is = is_opened rack room extra before volume new hot taken given answers leaves V;
         next = one.0;
         step = step_less all at.state event reply one.0 one.2;
         counts = ap (λ (s : State). s.counts) one.1.is;
@@ -67,11 +68,11 @@ module _ {R : Type 0} (rack : Ghosts R) (before : R) (volume new : Volume AnyPha
 
 -- ---- the state of an array that was opened
 
-module _ {R : Type 0} (rack : Ghosts R) (before : R) (volume : Volume AnyPhase R) (hot : List ℕ) (taken given : Option (List ℕ))
-    (opened : HasOpened rack before volume hot) where
+module _ {R : Type 0} (rack : Ghosts R) (room : R → Option ℕ) (extra : List ℕ) (before : R) (volume : Volume AnyPhase R) (hot : List ℕ) (taken given : Option (List ℕ))
+    (answers : AnswersBytes rack room before extra (Opened volume hot)) where
   pub stays : Leaves any_phase any_phase rack volume volume
   stays = record {
-    well = opened.well;
+    well = answers.answers.opened.well;
     shape = refl;
     boundaries = refl;
     live = refl;
@@ -84,20 +85,23 @@ module _ {R : Type 0} (rack : Ghosts R) (before : R) (volume : Volume AnyPhase R
   }
 
   -- the text of its parts tells of its state
-  pub has_shown : (text : List ℕ) → text ≡ array_text (table_of volume) (members_of volume) (phase_of any_phase volume)
-      → HasShown (rack.tells (rack_of volume)) (facts rack before volume volume hot taken given opened stays) text
+  pub has_shown : (text : List ℕ) → text ≡ array_text (table_of volume) (live_of volume) (members_of volume) (phase_of any_phase volume)
+      → HasShown (rack.tells (rack_of volume)) (facts rack room extra before volume volume hot taken given answers stays) text
   has_shown text is = record {
-    source = source rack before volume volume hot taken given opened stays;
+    source = source rack room extra before volume volume hot taken given answers stays;
     phase = phase_of any_phase volume;
-    others = others rack before volume volume hot taken given opened stays;
-    text_is = is ∙ ap (λ (t : Table). array_text t (members_of volume) (phase_of any_phase volume)) opened.table;
+    others = others rack room extra before volume volume hot taken given answers stays;
+    text_is = is
+        ∙ ap (λ (t : Table). array_text t (live_of volume) (members_of volume) (phase_of any_phase volume)) answers.answers.opened.table
+        ∙ ap (λ (live : List ℕ). array_text answers.answers.opened.saved.table live (members_of volume) (phase_of any_phase volume))
+            (live_is rack room extra before volume volume hot taken given answers stays);
     shows = λ V.
-        let at = at_first rack before volume volume hot taken given opened stays V in
+        let at = at_first rack room extra before volume volume hot taken given answers stays V in
         record {
           state = at.state;
-          is = is_opened rack before volume volume hot taken given opened stays V;
+          is = is_opened rack room extra before volume volume hot taken given answers stays V;
           text_is = is ∙ sym (ap status_text at.stands.is);
-          holds = λ known. holds_all rack volume any_phase at.state opened.well at.stands (known_now rack before volume volume hot taken given opened stays V known);
+          holds = λ known. holds_all rack volume any_phase at.state answers.answers.opened.well at.stands (known_now rack room extra before volume volume hot taken given answers stays V known);
         };
   }
 
