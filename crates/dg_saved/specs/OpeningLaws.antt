@@ -14,7 +14,7 @@ use Rattle.dg_model.specs.States.{Counts, StandsFor, State, is_broken}
 use Rattle.dg_model.specs.Tables.{Table}
 use Rattle.dg_model.specs.declared.shapes.Shape.{Shape}
 use Rattle.dg_open.specs.Founds.{IsRead}
-use Rattle.dg_open.specs.Reopenings.{AreReadOf, FindsNoState, FindsUnclean, LeavesRead}
+use Rattle.dg_open.specs.Reopenings.{AreReadOf, FindsNoState, LeavesRead}
 use Rattle.dg_regroup.specs.Extras.{extra_bytes}
 use Rattle.dg_regroup.specs.declared.extras.Extra.{Extra}
 use Rattle.dg_saved.specs.Calls.{Facts}
