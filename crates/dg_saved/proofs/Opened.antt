@@ -94,7 +94,7 @@ module _ {R : Type 0} (rack : Ghosts R) (room : R → Option ℕ) (extra : List 
     text_is = is
         ∙ ap (λ (t : Table). array_text t (live_of volume) (members_of volume) (phase_of any_phase volume)) answers.answers.opened.table
         ∙ ap (λ (live : List ℕ). array_text answers.answers.opened.saved.table live (members_of volume) (phase_of any_phase volume))
-            (live_is rack room extra before volume volume hot taken given answers stays);
+        (live_is rack room extra before volume volume hot taken given answers stays);
     shows = λ V.
         let at = at_first rack room extra before volume volume hot taken given answers stays V in
         record {

@@ -10,10 +10,7 @@ use dg_io::{Checkpoint, Sink};
 use dg_volume::OpenAnswer;
 
 /// Prints why no array was opened, and gives the rack back.
-pub fn tell_unopened<K: Sink, R: Checkpoint + Drop>(
-    sink: &mut K,
-    answer: OpenAnswer<R>,
-) -> Ended<R>
+pub fn tell_unopened<K: Sink, R: Checkpoint + Drop>(sink: &mut K, answer: OpenAnswer<R>) -> Ended<R>
     requires { IsUnopened answer }
     ensures ends { (before : R) (extra : List ℕ) → AnswersOpenKept R.Rack R.room_of before extra answer
         → EndsUnopened (facts_of K.Sink R.Rack R.room_of extra sink.old sink.new before result.rack) result.end }
