@@ -1,12 +1,18 @@
 -- What was done on an opened volume, told by the members and the counts of its rack.
-use Rattle.std.proofs.Common.{◌≡◌, ◌≢◌, ◌⊎◌, ℕ, List, ap, arith, refl, sym, ◌∙◌, inl, inr}
+use Rattle.std.proofs.Common.{◌≡◌, ◌≢◌, ◌⊎◌, ◌≤◌, ℕ, List, ap, arith, refl, sym, ◌∙◌, inl, inr}
 use Rattle.std.specs.Prelude.{Bool, Option}
+use Rattle.dg_io.specs.Makes.{Makes}
+use Rattle.dg_io.specs.MakesLaws.{makes_both, makes_such}
+use Rattle.dg_io.specs.RackCalls.{RackCall}
+use Rattle.dg_io.specs.RackCalls.RackCall.{blanks, calls, extends, looks}
 use Rattle.dg_io.specs.declared.outside.Rack.{Ghosts}
 use Rattle.dg_model.proofs.KnownLaws.{step_less}
+use Rattle.dg_model.specs.Openings.{Reduced}
 use Rattle.dg_model.specs.States.{State}
 use Rattle.dg_model.specs.Tables.{Table}
 use Rattle.dg_model.specs.declared.events.Event.{Event}
 use Rattle.dg_model.specs.declared.replies.Reply.{Reply}
+use Rattle.dg_open.specs.Reopenings.{IsCallOfOpening}
 use Rattle.dg_saved.specs.Calls.{Facts}
 use Rattle.dg_saved.specs.Ends.{EndsEvent, EndsStatus, Printed, PrintedPart}
 use Rattle.dg_saved.specs.OpeningLaws.{at_first, facts, is_opened, known_now, live_is, origin, others, source}
@@ -15,12 +21,30 @@ use Rattle.dg_saved.specs.Serves.{EndsServed, Steps}
 use Rattle.dg_saved.specs.Texts.{array_text, status_text}
 use Rattle.dg_saved.specs.declared.ends.SavedEnd.{SavedEnd}
 use Rattle.dg_saved.specs.declared.ends.SavedEnd.TheVariants.{Done, NoState, Refused, Unclean, WriteFault}
+use Rattle.dg_store.specs.Leaves.{IsCallBelow}
 use Rattle.dg_volume.specs.Besides.{AnswersBytes}
 use Rattle.dg_volume.specs.HeldLaws.{holds_all, own_still}
-use Rattle.dg_volume.specs.Volumes.{Leaves, any_phase, live_of, members_of, phase_of, rack_of, table_of}
+use Rattle.dg_volume.specs.Opens.{HasOpenedBeside}
+use Rattle.dg_volume.specs.Volumes.{Leaves, any_phase, live_of, members_of, phase_of, rack_of, shape_of, table_of}
 use Rattle.dg_volume.specs.declared.opens.OpenAnswer.TheVariants.{Opened}
 use Rattle.dg_volume.specs.declared.phases.AnyPhase.{AnyPhase}
 use Rattle.dg_volume.specs.declared.volumes.Volume.{Volume}
+
+-- ---- the calls that were made
+
+low_call : (b : ℕ) → b ≤ 16 → (call : RackCall) → IsCallBelow b call → IsCallOfOpening call
+low_call b most (looks q) below = absurd below
+low_call b most (blanks q) below = absurd below
+low_call b most (calls q) below = omega (arith, below, most)
+low_call b most (extends q) below = absurd below
+
+-- those of an opening, and then calls on the members of the array that was opened
+pub calls_made : {R : Type 0} (rack : Ghosts R) (beside : Option Reduced) (before : R) (volume new : Volume AnyPhase R) (hot : List ℕ)
+    → HasOpenedBeside rack beside before volume hot → Leaves any_phase any_phase rack volume new → Makes rack IsCallOfOpening before (rack_of new)
+calls_made rack beside before volume new hot opened leaves =
+    let b = (shape_of volume).b in
+    makes_both rack IsCallOfOpening before (rack_of volume) (rack_of new) opened.made
+    (makes_such rack (IsCallBelow b) IsCallOfOpening (low_call b opened.well.array.table.shape.most_boundaries) (rack_of volume) (rack_of new) leaves.own.made)
 
 -- ---- one event
 

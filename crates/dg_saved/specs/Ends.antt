@@ -1,5 +1,6 @@
 -- How each command on a saved array ends. What is known of blocks is known where the rack tells the members in the end (`tells`).
 use Rattle.std.specs.Prelude.{◌≡◌, ◌≢◌, ◌⊎◌, ℕ, Bool, true, false, List}
+use Rattle.dg_io.specs.Makes.{Makes}
 use Rattle.dg_io.specs.SinkLines.{LeavesLines}
 use Rattle.dg_io.specs.Told.{Told, Took, TookPart}
 use Rattle.dg_io.specs.declared.outside.Rack as racks
@@ -8,6 +9,7 @@ use Rattle.dg_model.specs.Causes.{Rose}
 use Rattle.dg_model.specs.declared.events.Event.{Event}
 use Rattle.dg_model.specs.declared.events.Event.TheVariants.{Cat, Ls}
 use Rattle.dg_model.specs.declared.replies.Reply.{Reply}
+use Rattle.dg_open.specs.Reopenings.{IsCallOfOpening}
 use Rattle.dg_saved.specs.Calls.{Facts}
 use Rattle.dg_saved.specs.Saved.{FoundNoState, FoundUnclean, HasRun, HasShown}
 use Rattle.dg_saved.specs.Texts.{cat_text, gives_file, gives_listing, ls_text, nostate_text, unclean_text}
@@ -22,10 +24,11 @@ Printed facts text = Told (Took text) facts.taken facts.given
 abbrev pub PrintedPart : Facts → List ℕ → Type 0
 PrintedPart facts text = Told (TookPart text) facts.taken facts.given
 
--- What every command that gives the rack back leaves: the rack's name, the faults of the sink by the end, and calls that each give whole lines, at most
--- so many bytes without one.
+-- What every command that gives the rack back leaves: the rack's name; calls on its members 0 to 31 alone, of which each looks for a member, or reads or
+-- writes it; the faults of the sink by the end; and calls of that which each give whole lines, at most so many bytes without one.
 pub record LeavesSaved {K R : Type 0} (w : ℕ) (out_ghosts : sinks.Ghosts K) (rack : racks.Ghosts R) (old new : K) (before now : R) (end : SavedEnd) : Type 0 where
   pub name : rack.name now ≡ rack.name before
+  pub made : Makes rack IsCallOfOpening before now
   pub write : end ≡ WriteFault → Rose (out_ghosts.faults old) (out_ghosts.faults new)
   pub kept : end ≢ WriteFault → out_ghosts.faults new ≡ out_ghosts.faults old
   pub lines : end ≢ WriteFault → LeavesLines w out_ghosts.whole out_ghosts.calls out_ghosts.taken old new

@@ -4,6 +4,8 @@ use Rattle.std.specs.Prelude.{Bool, true, false, Option, Some, None, IfSome, IsS
 use Rattle.std.proofs.lemmas.Bool.{false≢true}
 use Rattle.std.proofs.lemmas.List.FromFn.{get_or-range_with_len}
 use Rattle.dg_io.specs.MadeLaws.{same_both}
+use Rattle.dg_io.specs.Makes.{Makes}
+use Rattle.dg_io.specs.Makes.Makes.{nothing as made_nothing}
 use Rattle.dg_io.specs.declared.outside.Rack.{Ghosts}
 use Rattle.dg_model.specs.Changes.{IsInOrder}
 use Rattle.dg_model.specs.Lives.{all_live, boundary_at}
@@ -14,7 +16,7 @@ use Rattle.dg_model.specs.States.{Counts, StandsFor, State, is_broken}
 use Rattle.dg_model.specs.Tables.{Table}
 use Rattle.dg_model.specs.declared.shapes.Shape.{Shape}
 use Rattle.dg_open.specs.Founds.{IsRead}
-use Rattle.dg_open.specs.Reopenings.{AreReadOf, FindsNoState, LeavesRead}
+use Rattle.dg_open.specs.Reopenings.{AreReadOf, FindsNoState, IsCallOfOpening, LeavesRead}
 use Rattle.dg_regroup.specs.Extras.{extra_bytes}
 use Rattle.dg_regroup.specs.declared.extras.Extra.{Extra}
 use Rattle.dg_saved.specs.Calls.{Facts}
@@ -107,6 +109,16 @@ module _ {R : Type 0} (rack : Ghosts R) (room : R → Option ℕ) (extra : List 
 
   pub same_unclean : AnswersOpenKept rack room before extra (Unclean now) → rack.name now ≡ rack.name before
   same_unclean h = h.answers.leaves.same_rack
+
+  -- calls of an opening were made of it, or none
+  pub made_no_state : AnswersOpenKept rack room before extra (NoState now) → Makes rack IsCallOfOpening before now
+  made_no_state h = elim h [
+    | inl said ↦ made_nothing said.1
+    | inr by ↦ elim by.answers [ inl none ↦ none.leaves.made | inr bad ↦ bad.leaves.made ]
+  ]
+
+  pub made_unclean : AnswersOpenKept rack room before extra (Unclean now) → Makes rack IsCallOfOpening before now
+  made_unclean h = h.answers.leaves.made
 
 module _ {R : Type 0} (rack : Ghosts R) (room : R → Option ℕ) (extra : List ℕ) (before now : R) (taken given : Option (List ℕ)) where
   abbrev pub looked_facts : Facts

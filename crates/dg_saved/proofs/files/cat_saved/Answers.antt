@@ -1,6 +1,8 @@
 use Rattle.std.proofs.Common.{◌∙◌, ap, subst, sym}
 use Rattle.dg_model.specs.declared.events.Event.TheVariants.{Cat}
-use Rattle.dg_saved.proofs.Opened.{ends_event}
+use Rattle.dg_io.specs.Makes.{Makes}
+use Rattle.dg_open.specs.Reopenings.{IsCallOfOpening}
+use Rattle.dg_saved.proofs.Opened.{calls_made, ends_event}
 use Rattle.dg_saved.proofs.Unopened.{event_unopened}
 use Rattle.dg_saved.specs.Calls.{facts_of}
 use Rattle.dg_saved.specs.Ends.{EndsCat}
@@ -32,6 +34,8 @@ returns-in-Opened-clause-leaves g c =
     let answers = subst (λ a. AnswersOpenKept g.R.Rack g.R.Checkpoint.room_of c.args.rack c.args.extra.now a) c.in-Opened.is c.in_ok-unopened.ensures in
     record {
       name = ap g.R.Rack.name c.into_rack.ensures ∙ (c.serve_cat-end.ensures.leaves.same_rack ∙ answers.answers.opened.stays.same_rack);
+      made = subst (λ r. Makes g.R.Rack IsCallOfOpening c.args.rack r) (sym c.into_rack.ensures)
+          (calls_made g.R.Rack answers.answers.beside c.args.rack c.in-Opened.volume c.serve_cat-end.new.volume c.in-Opened.field-1 answers.answers.opened c.serve_cat-end.ensures.leaves);
       write = c.serve_cat-end.ensures.write;
       kept = c.serve_cat-end.ensures.kept;
       lines = c.serve_cat-end.ensures.lines;

@@ -1,5 +1,7 @@
 use Rattle.std.proofs.Common.{◌≡◌, ◌∙◌, ℕ, List, ap, subst, sym}
+use Rattle.dg_io.specs.Makes.{Makes}
 use Rattle.dg_io.specs.SinkLines.{MayWrite}
+use Rattle.dg_open.specs.Reopenings.{IsCallOfOpening}
 use Rattle.dg_saved.proofs.Opened.{has_shown, shown_ends}
 use Rattle.dg_saved.proofs.Unopened.{status_unopened}
 use Rattle.dg_saved.specs.Calls.{facts_of}
@@ -43,6 +45,7 @@ returns-in_ok-text-in-Opened-clause-leaves g c =
     let may : MayWrite 255 1 text = may_line 255 text (array_feed (table_of volume) (live_of volume) (members_of volume) (phase_of any_phase volume)) in
     record {
       name = ap g.R.Rack.name c.into_rack.ensures ∙ answers.answers.opened.stays.same_rack;
+      made = subst (λ r. Makes g.R.Rack IsCallOfOpening c.args.rack r) (sym c.into_rack.ensures) answers.answers.opened.made;
       write = c.tell-end.ensures.write;
       kept = c.tell-end.ensures.kept;
       lines = c.tell-end.ensures.lines 255 (subst (λ (shown : List ℕ). MayWrite 255 1 shown) (sym is) may);
