@@ -28,6 +28,7 @@ mod LostSteps
 mod MoveSteps
 mod OpenLaws
 mod OpenSteps
+mod OpenedSeals
 mod OrderLaws
 mod PathSteps
 mod PlaceLaws

@@ -545,16 +545,6 @@ module _ {S R : Type 0} (phase : phases.Ghosts S) (rack : Ghosts R) where
     pub opening : KeepsArray rack a.store b.store
     pub labels : Labels rack a b
 
-  pub opened_by : (a : Volume S R) (store : Store R) (label : Option KeptLabel) → IsWell phase rack a → KeepsArray rack a.store store → Relabels rack (line_of a) a.store store a.label label
-      → HasOpened a (record a { store = store; label = label })
-  opened_by a store label well opening labels = record {
-    labeled = well.labeled;
-    beside = record { phase_is = refl; pending = refl; homes = refl; copies = refl; in_use = refl };
-    levels = refl;
-    opening = opening;
-    labels = labels;
-  }
-
   keeps_opened : (a b : Volume S R) → HasOpened a b → Keeps phase rack a b
   keeps_opened a b h = opened_keeps a b.store b h.labeled h.opening h.labels h.beside h.levels refl
 

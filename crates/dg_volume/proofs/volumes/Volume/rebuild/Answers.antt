@@ -1,6 +1,7 @@
 use Rattle.std.proofs.Common.{◌<◌, ℕ, Bool, List, inl, inr, refl, sym, subst, arith}
 use Rattle.std.specs.Prelude.{IfSome}
-use Rattle.dg_volume.proofs.RebuildSteps.{CallsRebuild, HasRebuilt, opened_by, opened_leaves, opened_spares, quiet_rack, rebuild_leaves, rebuild_spares, rebuild_steps, rebuilt_labels, steps_ended, steps_unused}
+use Rattle.dg_volume.proofs.OpenedSeals.{opened_by}
+use Rattle.dg_volume.proofs.RebuildSteps.{CallsRebuild, HasRebuilt, opened_leaves, opened_spares, quiet_rack, rebuild_leaves, rebuild_spares, rebuild_steps, rebuilt_labels, steps_ended, steps_unused}
 use Rattle.dg_volume.specs.Phases.{CanReapAll}
 use Rattle.dg_volume.specs.Refills.{AreReapMarks}
 use Rattle.dg_volume.proofs.VolumeLaws.{leaves_none}
