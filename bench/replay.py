@@ -18,12 +18,12 @@ ROUNDS = 9
 BITS = (10, 17, 20)
 
 
-def write_trace(path, blocks, events, seed):
+def write_trace(path, blocks, events, seed, kind="array"):
     """A trace of an array whose slots are twice its blocks, half of the events writes and half reads."""
     rng = random.Random(seed)
     slots = 2 * blocks // BOUNDARIES
     with open(path, "w") as out:
-        out.write(f"array {BLOCK} {blocks} {BOUNDARIES} {slots} 2\n")
+        out.write(f"{kind} {BLOCK} {blocks} {BOUNDARIES} {slots} 2\n")
         for _ in range(events):
             block = rng.randrange(blocks)
             if rng.random() < 0.5:

@@ -13,12 +13,12 @@ MORE_FOLLOWS = (b"bytes ", b"entry ", b"node ", b"block ")
 
 
 class Session:
-    """A replay in a folder of its own, on an array of this shape."""
+    """A replay in a folder of its own, on an array of this shape; the kind is `array` or `safe`."""
 
-    def __init__(self, program, folder, shape):
+    def __init__(self, program, folder, shape, kind="array"):
         os.makedirs(folder, exist_ok=True)
         self.child = subprocess.Popen([program, "replay"], stdin=subprocess.PIPE, stdout=subprocess.PIPE, cwd=folder)
-        self.all_well(["array {} {} {} {} {}\n".format(*shape)])
+        self.all_well(["{} {} {} {} {} {}\n".format(kind, *shape)])
 
     def processor(self):
         """The processor's seconds of the program so far."""

@@ -3,7 +3,8 @@
 The volumes are those of bench/check.py, with fragments of 512 bytes; the array has four boundaries with slots for twice the blocks. The
 trace goes to a pipe once, where it is compared with the lines that the volume's blocks make, and then to nowhere. A turn makes 256 MiB of each
 image's traces, and of three turns the least mean counts. The time per MiB of an image, of the processor in the program, may grow by a factor
-of 1.3 from 16 to 256 MiB; else the exit status is 1. The images stand in a temporary folder (TMPDIR says where).
+of 1.3 from 16 to 256 MiB; else the exit status is 1. At last the peak memory is told of an image of 256 MiB whose superblock is refused (zeros), as
+a file and through a pipe. The images stand in a temporary folder (TMPDIR says where).
 """
 import collections
 import hashlib
@@ -20,9 +21,41 @@ from settle import BOUNDARIES, written_blocks
 ROUNDS = 3
 SIZES = (16, 64, 256)
 MOST_RATIO = 1.3
+REFUSED = 8
 
 # The seconds by the clock, of the processor in the program and in the system, and the peak memory in KiB.
 Taken = collections.namedtuple("Taken", "clock seconds system peak")
+
+
+def watched(child):
+    """Waits for a process: how it ended, what it took, and its peak memory in KiB."""
+    peak, ended = 0, 0
+    while not ended:
+        peak = max(peak, peak_of(child.pid))
+        time.sleep(0.001)
+        ended, status, usage = os.wait4(child.pid, os.WNOHANG)
+    return status, usage, peak
+
+
+def refused_peaks(program, folder):
+    """The peak memory in KiB of traces of an image whose superblock is refused, which is a file and which comes through a pipe."""
+    path, peaks = os.path.join(folder, "refused"), []
+    with open(path, "wb") as image:
+        image.truncate(SIZES[-1] << 20)
+    words = [program, "trace", "late", str(BOUNDARIES), "64", "2"]
+    for piped in [False, True]:
+        with open(path, "rb") as image:
+            sender = subprocess.Popen(["cat", path], stdout=subprocess.PIPE) if piped else None
+            child = subprocess.Popen(words, stdin=sender.stdout if piped else image, stdout=subprocess.DEVNULL)
+            if piped:
+                sender.stdout.close()
+            status, _, peak = watched(child)
+            if piped:
+                sender.wait()
+        if os.waitstatus_to_exitcode(status) != REFUSED:
+            sys.exit(f"the image of zeros isn't refused: wait status {status}")
+        peaks.append(peak)
+    return peaks
 
 
 class Image:
@@ -57,13 +90,8 @@ class Image:
 
     def trace(self, program):
         """One run: what it takes."""
-        peak, ended = 0, 0
         start = time.monotonic()
-        child = self.start(program, subprocess.DEVNULL)
-        while not ended:
-            peak = max(peak, peak_of(child.pid))
-            time.sleep(0.001)
-            ended, status, usage = os.wait4(child.pid, os.WNOHANG)
+        status, usage, peak = watched(self.start(program, subprocess.DEVNULL))
         if status != 0:
             sys.exit(f"the program ended with wait status {status}")
         return Taken(time.monotonic() - start, usage.ru_utime, usage.ru_stime, peak)
@@ -81,6 +109,7 @@ def main():
         for image in images:
             image.check(program)
         turns = [[image.turn(program) for image in images] for _ in range(ROUNDS)]
+        refused = refused_peaks(program, folder)
     per_mib = []
     for image, taken in zip(images, zip(*turns)):
         least = Taken(*map(min, zip(*taken)))
@@ -90,6 +119,7 @@ def main():
             f"{least.system * 1e3:,.0f} in the system; MiB of the image a second: {image.mib / least.clock:,.0f} by the clock, "
             f"{image.mib / least.seconds:,.0f} in the program; peak memory {least.peak / 1024:,.1f} MiB"
         )
+    print(f"{SIZES[-1]} MiB, the superblock refused: peak memory {refused[0] / 1024:,.1f} MiB of a file, {refused[1] / 1024:,.1f} through a pipe")
     ratio = per_mib[-1] / per_mib[0]
     print(f"time per MiB at {SIZES[-1]} MiB to that at {SIZES[0]}: {ratio:.2f}")
     sys.exit(ratio > MOST_RATIO)

@@ -10,7 +10,7 @@ Going on: after each loss the array is regrouped and settled before the next one
 asked for. Copies: files are read by a Zipf distribution (the file of rank r with a weight of 1 / r, the ranks drawn by the
 seed), 400 reads from the most to the least of them at random; then `diffuse` copies those that were read last, or doesn't, and
 boundaries are lost one after another. What counts there is the share of such reads that is still answered: the weights of the
-files that are given.
+files that are given. Both: after each loss the array is regrouped and settled, the same 400 reads are made of it, and `diffuse` makes new copies.
 
 Each byte that is given is compared with the file's. The rows go to docs/study/remedies.csv, the figures to docs/study/*.svg.
 """
@@ -25,9 +25,12 @@ from study import BOUNDARIES, HERE, PROGRAM, asked, curve, figure, mean, mirror,
 PLACES = 2
 READS = 400
 COLUMNS = "b way k lost files reads directories answers".split()
-WAYS = {"left": [], "regrouped": ["regroup", "settle"], "copied": []}
+COPYING = ("copied", "both")
+WAYS = {"left": [], "regrouped": ["regroup", "settle"], "copied": [], "both": ["regroup", "settle"]}
 STYLES = {"left": ("#4292c6", "", "lost one after another"), "regrouped": ("#08306b", "", "regrouped and settled after each loss")}
-READ_STYLES = {"left": ("#4292c6", "", "without copies"), "copied": ("#08306b", "", "with copies of the files read last")}
+READ_STYLES = {
+    "left": ("#4292c6", "", "without copies"), "copied": ("#08306b", "", "with copies of the files read last"),
+    "both": ("#31a354", "", "regrouped, and copied anew, after each loss")}
 
 
 class Zipf:
@@ -57,10 +60,12 @@ def given(study, zipf, replies):
 
 def lose(program, study, zipf, b, way, warm, order):
     """For each k what is given once the first k boundaries of the order are lost."""
-    before = [*(f"cat {path}" for path in warm), *(["diffuse"] if way == "copied" else [])]
+    reads = [f"cat {path}" for path in warm]
+    before = [*reads, *(["diffuse"] if way in COPYING else [])]
+    remedy = [*WAYS[way], *(before if way == "both" else [])]
     events = ["settle", *before, *asked(study)]
     for s in order:
-        events += [f"fail {s} 0", f"fail {s} 1", *WAYS[way], *asked(study)]
+        events += [f"fail {s} 0", f"fail {s} 1", *remedy, *asked(study)]
     head = f"array {BLOCK} {BLOCKS} {b} {2 * BLOCKS // b} {PLACES}\n" + study.writes()
     replies = replies_of(replay(program, head + "\n".join(events) + "\n"))
     for _ in range(1 + len(study.blocks)):
@@ -68,7 +73,8 @@ def lose(program, study, zipf, b, way, warm, order):
     answers = [next(replies)[0].decode() for _ in range(1 + len(before))]
     assert answers[0] == "settled", answers[0]
     for k in range(b + 1):
-        told = answers[-1:] if k == 0 else [next(replies)[0].decode() for _ in range(2 + len(WAYS[way]))][2:]
+        told = answers[-1:] if k == 0 else [next(replies)[0].decode() for _ in range(2 + len(remedy))][2:]
+        told = told[:len(WAYS[way])] + told[-1:] if way == "both" and k else told
         yield k, " ".join(map(str, order[:k])), *given(study, zipf, replies), "; ".join(told)
 
 

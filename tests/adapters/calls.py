@@ -117,18 +117,18 @@ def no_image_can_be_attached(case):
 
 
 def more_images_than_files_may_be_open(case):
-    """Three streams, three that the program holds, and three images; no other image can be made, or opened."""
+    """Three streams, four that the program holds, the folder among them, and three images; no other image can be made, or opened."""
     others = [image_name(*divmod(member, 2)) for member in range(3, 8)]
     told = [f"{name}: blank: Too many open files" for name in others]
     case.wants("replay", ["array 1024 64 4 32 2", "write 0 b0", "read 0", "fail 1 0", "settle"], 0,
-               ["ok", "degraded", "data -", "ok", "lost 1"], told, open_files(9))
+               ["ok", "degraded", "data -", "ok", "lost 1"], told, open_files(10))
     for name in os.listdir(case.folder):
         os.remove(os.path.join(case.folder, name))
     case.save_four()
     told = [f"{name}: attach: Too many open files" for name in others]
     case.wants("status", [], 0, [
         "array 1024 64 4 32 2", "phase worn", "boundary 0 both 1", "boundary 1 half 0 1", "boundary 2 lost 0 1", "boundary 3 lost 0 1",
-    ], told, open_files(9))
+    ], told, open_files(10))
 
 
 # ---- images that can't be made longer, or written

@@ -22,6 +22,7 @@ NOBODY = 65534
 SECONDS = 60
 SMALL = "array 1024 64 4 32 2\n"
 IMAGES = [f"member-{s:02}-{j}.img" for s in range(4) for j in range(2)]
+SAFE = SMALL.replace("array", "safe")
 SAVED = SMALL + "write 3 6f6c64\nsave\n"
 REFUSED = "in use by another run"
 
@@ -153,8 +154,8 @@ def see_readable(case, denial, **how):
     want("the images", older, case.bytes_of())
 
 
-def save_a_file(case):
-    """Saves a volume with a file /a, which says nostate."""
+def save_a_file(case, word="array"):
+    """Saves a volume with a file /a, which says nostate, in an array whose first line has this word."""
     os.mkdir(case.path("from"))
     with open(case.path("from/a"), "w") as file:
         file.write("nostate\n")
@@ -163,11 +164,11 @@ def save_a_file(case):
     with open(case.path("image"), "rb") as file:
         image = file.read()
     trace = subprocess.run([case.program, *"trace late 4 1024 2".split()], input=image, capture_output=True, check=True).stdout.decode()
-    case.save(trace + "save\n")
+    case.save(trace.replace("array", word, 1) + "save\n")
 
 
-def images_of_mode_444(case):
-    save_a_file(case)
+def images_of_mode_444(case, word="array"):
+    save_a_file(case, word)
     for name in IMAGES:
         os.chmod(case.path(name), 0o444)
     how = {"user": NOBODY, "group": NOBODY, "extra_groups": []} if os.geteuid() == 0 else {}
@@ -175,6 +176,10 @@ def images_of_mode_444(case):
         see_readable(case, "Permission denied", **how)
     except PermissionError as error:
         raise Skipped(f"the program can't be run as another user: {error}") from None
+
+
+def safe_images_of_mode_444(case):
+    images_of_mode_444(case, "safe")
 
 
 def a_read_only_mount(case):
@@ -207,6 +212,25 @@ def two_runs_at_once(case):
     want("the first run's save", "saved 2\n", ask(first, "save"))
     want("the first run's end", (b"", b""), first.communicate(timeout=SECONDS))
     case.see("resume", "read 3\n", "data 6e6577\n")
+
+
+def a_folder_in_use(case):
+    """A run that has the folder keeps others from each image, also from those that it hasn't opened yet, and from making any."""
+    case.save()
+    found = case.run("status")[0]
+    folder = os.open(case.folder, os.O_RDONLY)
+    fcntl.flock(folder, fcntl.LOCK_EX)
+    refused = lines("attach", REFUSED) + "8 images couldn't be opened\n"
+    for words in ("resume", "status"):
+        case.see(words, "write 3 00\nsave\n" if words == "resume" else "", "nostate\n", refused, 6)
+    fcntl.flock(folder, fcntl.LOCK_SH)
+    case.see("status", "", found)
+    case.see("resume", "read 3\n", "nostate\n", refused, 6)
+    for name in IMAGES:
+        os.unlink(case.path(name))
+    case.see("replay", SMALL, "ok\n", lines("blank", REFUSED))
+    want("files", [], os.listdir(case.folder))
+    os.close(folder)
 
 
 def a_new_array_that_is_in_use(case):
@@ -254,8 +278,8 @@ def the_order_of_a_save(case):
     (output, told, status), trace = case.traced("pwrite64,fdatasync,fsync", [], "replay", SAVED + "write 3 00\nsave\n")
     want("the run", ("ok\nok\nsaved 1\nok\nsaved 2\n", "", 0), (output, told, status))
     plain = [body, "fdatasync", 0, "fdatasync", 0, "fdatasync", body, "fdatasync", 0, "fdatasync"]
-    # the block's first place is slot 0, and it is written in the header's second page
-    written = [512, *plain[:6], 512, "fdatasync", *plain[6:]]
+    # the block's first place is slot 0, which is no header
+    written = [512, *plain[:6], 512, *plain[6:]]
     found = calls_in(trace)
     names = [calls for calls in found.values() if calls == ["fsync"]]
     images = [calls for calls in found.values() if calls != ["fsync"]]
@@ -268,9 +292,84 @@ def an_opened_seal(case):
     ended, trace = case.traced("pwrite64,fdatasync,fsync", [], "resume", "write 3 00\nwrite 7 01\nread 3\n")
     want("the run", ("ok\nok\ndata -\n", "", 0), ended)
     # the last one is that of closing
-    want("the calls on an image", [0, "fdatasync", 512, "fdatasync", 1536, "fdatasync"], max(calls_in(trace).values(), key=len))
+    want("the calls on an image", [0, "fdatasync", 512, 1536, "fdatasync"], max(calls_in(trace).values(), key=len))
     ended, trace = case.traced("fdatasync,fsync,sync", [], "resume", "")
     want("an unclean array", ("unclean\n", 7, ""), (ended[0], ended[2], trace))
+
+
+def the_order_of_a_safe_save(case):
+    """Each header of each member is flushed alone, when all before it is on the disk: also the first ones, at byte 512. All are prepared before one is made."""
+    (output, told, status), trace = case.traced("pwrite64,fdatasync,fsync", ["-s", "17"], "replay", SAFE + "write 3 6f6c64\nsave\nwrite 3 00\nsave\nwrite 3 01\n")
+    want("the run", ("ok\nok\nsaved 1\nok\nsaved 2\nok\n", "", 0), (output, told, status))
+    found = calls_in(trace)
+    names = [calls for calls in found.values() if calls == ["fsync"]]
+    images = [calls for calls in found.values() if calls != ["fsync"]]
+    want("the calls on the folder", [["fsync"]], names)
+    want("the number of images", 8, len(images))
+    first, second = (["fdatasync", place, "fdatasync", place, "fdatasync"] for place in (512, 0))
+    for calls in images:
+        # what else is written stands behind the headers; at the end, in the tables and pages
+        only = [call for call in calls if call in (0, 512, "fdatasync")]
+        closing = ["fdatasync"]
+        want("the headers and flushes of an image", [*first, *second, *closing], only)
+        behind = [call for call in calls if call not in (0, 512, "fdatasync")]
+        want("whether all else stands behind the headers", True, behind != [] and min(behind) >= 1024)
+        want("the call before the flushes", [True] * 2, [calls[calls.index(place) - 2] not in (0, 512, "fdatasync") for place in (512, 0)])
+    marks = re.findall(r'pwrite64\(\d+, "DGRAID-S[^"]*([PC])"\.\.\., 512, (0|512)\)', trace)
+    want("the order of the marks", [("P", "512")] * 8 + [("C", "512")] * 8 + [("P", "0")] * 8 + [("C", "0")] * 8, marks)
+
+
+def a_safe_array_that_is_opened_and_read(case):
+    """Its headers aren't written again, and nothing is flushed."""
+    case.save(SAFE + "write 3 6f6c64\nsave\n")
+    for words, given in (("status", ""), ("resume", "read 3\n")):
+        ended, trace = case.traced("pwrite64,fdatasync,fsync", [], words, given)
+        want("the calls of a run that reads", "", trace)
+    ended, trace = case.traced("pwrite64,fdatasync,fsync", [], "resume", "write 3 00\nwrite 7 01\nread 3\n")
+    want("the run", ("ok\nok\ndata -\n", "", 0), ended)
+    want("the flushes of a run that doesn't save", [], re.findall("fdatasync|fsync", trace))
+
+
+def halved(case):
+    """A saved array whose second save was stopped when one member alone had its header committed."""
+    case.save(SAFE + "write 3 6f6c64\nsave\nwrite 3 6e6577\nsave\n", 2)
+    for name in IMAGES[:-1]:
+        with open(case.path(name), "r+b") as file:
+            file.seek(16)
+            file.write(b"P")
+
+
+def safe_arrays_in_use(case):
+    """Two runs that write don't get the same members; what the first one saved stands while it goes on."""
+    case.save(SAFE + "write 3 6f6c64\nsave\n")
+    first = case.start("resume")
+    want("a write", "ok\n", ask(first, "write 3 6e6577"))
+    case.see("resume", "read 3\n", "nostate\n", lines("attach", REFUSED) + "8 images couldn't be opened\n", 6)
+    want("a save", "saved 2\n", ask(first, "save"))
+    want("a write behind it", "ok\n", ask(first, "write 3 00"))
+    first.kill()
+    first.communicate()
+    case.see("resume", "read 3\n", "data 6e6577\n")
+
+
+def a_safe_array_that_can_only_be_read(case):
+    """Commands that read open it, and leave each image as it was; also where a save was stopped halfway."""
+    halved(case)
+    before = case.bytes_of()
+    case.see("status", "", "array 1024 64 4 32 2\nphase loose\nboundary 0 both 0\nboundary 1 both 0\nboundary 2 both 0\nboundary 3 both 1\n")
+    case.see("ls /", "", "bad magic\n", "", 8)
+    want("the images", before, case.bytes_of())
+    case.see("resume", "read 3\n", "data 6e6577\n")
+    want("the images that another run has completed", True, before != case.bytes_of())
+    case.see("status", "", "array 1024 64 4 32 2\nphase loose\nboundary 0 both 0\nboundary 1 both 0\nboundary 2 both 0\nboundary 3 both 1\n")
+
+
+def a_slot_that_begins_as_a_header(case):
+    """A plain array's slot 0 stands where another one has a header. It is flushed where its bytes begin as one, and only then."""
+    case.save()
+    _, trace = case.traced("pwrite64,fdatasync", [], "resume", "write 3 00\n" + "write 3 4447524149442d53\n" + "write 3 01\n" * 3)
+    calls = max(calls_in(trace).values(), key=len)
+    want("the calls on an image", [0, "fdatasync", 512, "fdatasync", 512, "fdatasync", 512, 512, 512, "fdatasync"], calls)
 
 
 def no_flush_without_a_save(case):
@@ -290,11 +389,11 @@ def a_flush_that_fails(case):
 
 
 def an_error_of_closing(case):
-    """The third flush of an image is that of closing: what was written behind its label is flushed then, and a failure is told."""
+    """The second flush of an image is that of closing: what was written behind its label is flushed then, and a failure is told."""
     case.save()
     name = "member-03-0.img"
     told = lines("close", "Input/output error", [name])
-    options = ["-P", case.path(name), "-e", "inject=fdatasync:error=EIO:when=3"]
+    options = ["-P", case.path(name), "-e", "inject=fdatasync:error=EIO:when=2"]
     ended, _ = case.traced("fdatasync", options, "resume", "write 3 00\nwrite 7 01\nread 7\n")
     want("the run", ("ok\nok\ndata 01\n", told, 0), ended)
     case.see("status", "", "unclean\n", status=7)
@@ -445,8 +544,24 @@ def bodies_that_say_no_state(case):
         case.see(words, "", "nostate\n", "8 images, none with a whole state behind its label\n", 6)
 
 
+def safe_bodies_that_say_no_state(case):
+    """A plain member would have 35,817 bytes, so tables have a page, and pages begin at 2048; the body begins in page 67, of which both places are changed."""
+    case.save(SAFE + "write 3 6f6c64\nsave\n")
+    for name in IMAGES:
+        with open(case.path(name), "r+b") as file:
+            file.seek(2048 + 67 * 1024)
+            file.write(b"\xff" * 1024)
+    for words in ("status", "cat /a"):
+        case.see(words, "", "nostate\n", "8 images, none with a whole state behind its label\n", 6)
+
+
 def a_file_that_says_nostate(case):
     save_a_file(case)
+    case.see("cat /a", "", "nostate\n")
+
+
+def a_file_of_a_safe_array_that_says_nostate(case):
+    save_a_file(case, "safe")
     case.see("cat /a", "", "nostate\n")
 
 
@@ -476,10 +591,12 @@ def hard_linked_sides(case):
 
 
 CASES = [
-    a_new_array_among_older_images, a_drill_among_older_images, a_first_line_that_is_refused, images_that_cant_be_set_aside, images_of_mode_444, a_read_only_mount, two_runs_at_once,
-    a_new_array_that_is_in_use, two_runs_that_read, the_order_of_a_save, an_opened_seal, no_flush_without_a_save, a_flush_that_fails, an_error_of_closing,
+    a_new_array_among_older_images, a_drill_among_older_images, a_first_line_that_is_refused, images_that_cant_be_set_aside, images_of_mode_444, safe_images_of_mode_444, a_read_only_mount, two_runs_at_once, a_folder_in_use,
+    a_new_array_that_is_in_use, two_runs_that_read, the_order_of_a_save, the_order_of_a_safe_save,
+    a_safe_array_that_is_opened_and_read, a_slot_that_begins_as_a_header, safe_arrays_in_use, a_safe_array_that_can_only_be_read, an_opened_seal, no_flush_without_a_save, a_flush_that_fails, an_error_of_closing,
     an_error_of_closing_a_replaced_member, interrupted_streams, a_slow_reader, a_slow_writer, a_limit_on_the_length_of_files, a_blank_that_fails, a_replaced_member_that_fails_again,
-    why_there_is_no_array, bodies_that_say_no_state, a_file_that_says_nostate, links_are_followed, hard_linked_sides,
+    why_there_is_no_array, bodies_that_say_no_state, safe_bodies_that_say_no_state, a_file_that_says_nostate, a_file_of_a_safe_array_that_says_nostate,
+    links_are_followed, hard_linked_sides,
 ]
 
 

@@ -1,6 +1,6 @@
 """Damages the labels and bodies of saved members at random, and sees how the program takes it.
 
-    run.py PROGRAM [--cases N] [--seed S] [--first I] [--minutes T] [--keep FOLDER]
+    run.py PROGRAM [--cases N] [--seed S] [--first I] [--minutes T] [--doubles D] [--keep FOLDER]
 
 Arrays are made and saved twice by the program; each then has so many cases. A case changes a byte, a bit, a run, a number, the length,
 the seal, the format or what the body says; or it puts an older body, label or image there, or swaps, copies or removes images. The format
@@ -8,7 +8,9 @@ has no checksum; a body that says something else is made anew, with its length i
 `status`, `cat` of two paths, and `resume` with an empty trace are run. Each must end with just what the rules of an opening give for these
 bytes, read by `opened.py` and the model of the soak: an array, `nostate` and status 6, or `unclean` and status 7; within 20 seconds, with
 nothing on standard error, and with no byte of an image changed. Only where the good members disagree on a block is a reply of any right
-form taken. Case I is decided by the seed, and `--first I --cases 1` runs it alone; `--keep` leaves the images of the first wrong case. The
+form taken. Each second array is double
+(each Dth by `--doubles D`): headers, tables, pages and what stands beside the state are changed too, and `resume` completes headers, as the bytes say. Case I is
+decided by the seed, and `--first I --cases 1` runs it alone; `--keep` leaves the images of the first wrong case. The
 status is 1 where a case went wrong.
 """
 import argparse
@@ -23,10 +25,13 @@ import tempfile
 import time
 
 HERE = os.path.dirname(os.path.abspath(__file__))
-sys.path[:0] = [HERE, os.path.join(HERE, "..", "soak")]
+sys.path[:0] = [HERE, os.path.join(HERE, "..", "soak"), os.path.join(HERE, "..", "histories")]
+import between_doubles  # noqa: E402
+import opening  # noqa: E402
 from changes import MEMBERS, Images, change  # noqa: E402
 from generate import make  # noqa: E402
-from opened import decode, encode, opened  # noqa: E402
+from ledger import Disk  # noqa: E402
+from opened import decode, encode  # noqa: E402
 from rows import F, writes  # noqa: E402
 from saved import Difference, Label, Round, image_name  # noqa: E402
 
@@ -51,15 +56,15 @@ def images_in(folder):
     return found
 
 
-def trace_of(rng, seed):
-    """The events up to a save, and the paths that are read."""
+def trace_of(rng, seed, word):
+    """The events up to a save, of an array whose first line has this word, and the paths that are read."""
     if rng.random() < 0.4:
-        lines = [f"array 1024 128 4 64 {rng.choice([1, 2, 3])}", *writes(F)]
+        lines = [f"{word} 1024 128 4 64 {rng.choice([1, 2, 3])}", *writes(F)]
         paths = F_PATHS
     else:
-        lines = make(seed, rng.choice([40, 80, 120])).lines
+        lines = make(seed, rng.choice([40, 80, 120]), word).lines
         lines = [line for line in lines if not line.startswith("fail") or rng.random() < 0.2]
-        lines = lines[:rng.randrange(len(lines) + 1)] or ["array 512 64 2 64 1"]
+        lines = lines[:rng.randrange(len(lines) + 1)] or [f"{word} 512 64 2 64 1"]
         paths = sorted({line.split(" ")[1] for line in lines if line.split(" ")[0] in ("cat", "ls", "home")} | {"/"})
     if rng.random() < 0.7:
         lines += ["settle", *[f"cat {path}" for path in rng.sample(paths, min(3, len(paths)))]] + ["diffuse"] * (rng.random() < 0.6)
@@ -86,20 +91,20 @@ def as_first_form(images, is_short):
 class Saved:
     """An array that was saved twice: its images after each save."""
 
-    def __init__(self, program, seed, folder):
+    def __init__(self, program, seed, folder, word):
         rng = random.Random(f"array {seed}")
-        lines, self.paths = trace_of(rng, seed)
+        lines, self.paths = trace_of(rng, seed, word)
         one = Round(program, seed, 0, folder)
         one.paths = self.paths
         one.play("replay", [*lines, "save"])
         self.old = images_in(folder)
-        array = opened(folder)
+        array = opening.judge(self.old)
         if not isinstance(array, str):
             one.array = array
             one.play("resume", [*one.more(array)[:rng.choice([0, 3, 25])], "save"])
         self.now = images_in(folder)
         shutil.rmtree(folder)
-        if rng.random() < 0.2:
+        if rng.random() < 0.2 and word == "array":
             older = as_first_form(self.now, rng.random() < 0.7)
             self.now = older or self.now
 
@@ -128,10 +133,19 @@ class Case:
         self.program, self.folder, self.saved = program, folder, saved
         self.rng = random.Random(f"case {seed} {number}")
         self.counts = collections.Counter()
-        images = Images(saved.now, saved.old)
-        self.told = [change(self.rng, images) for _ in range(self.rng.choice([1, 1, 1, 1, 2, 3]))]
-        self.images = {member: bytes(image) for member, image in images.now.items()}
+        self.told = []
+        self.images = self.changed()
         folder.put(self.images)
+
+    def changed(self):
+        """The images of the saved array as they are changed."""
+        images = Images(self.saved.now, self.saved.old)
+        self.told += [change(self.rng, images) for _ in range(self.rng.choice([1, 1, 1, 1, 2, 3]))]
+        return {member: bytes(image) for member, image in images.now.items()}
+
+    def completed(self):
+        """The images behind a `resume` that does nothing."""
+        return self.images
 
     def run(self, words):
         """The output and the status, which must be one that has a name."""
@@ -163,11 +177,12 @@ class Case:
             self.see(["cat", path], ((reply[-1] + "\n").encode(), 8))
 
     def check(self):
-        array = opened(self.folder.path)
+        array, resumed = opening.judge(self.images), (b"", 0)
         if isinstance(array, str):
             self.counts[array] += 1
-            for words in (["status"], ["cat", self.rng.choice(self.saved.paths)], ["resume"]):
-                self.see(words, ((array + "\n").encode(), REFUSED[array]))
+            resumed = (array + "\n").encode(), REFUSED[array]
+            for words in (["status"], ["cat", self.rng.choice(self.saved.paths)]):
+                self.see(words, resumed)
         else:
             self.counts["phase " + array.phase() if array.is_sure else "unsure"] += 1
             texts = [Round.status_of(None, array)]
@@ -176,9 +191,29 @@ class Case:
             self.see(["status"], *((text, 0) for text in texts))
             for path in self.rng.sample(self.saved.paths, min(2, len(self.saved.paths))):
                 self.see_file(array, path)
-            self.see(["resume"], (b"", 0))
-        if images_in(self.folder.path) != self.images:
+        self.see_images(self.images)
+        self.see(["resume"], resumed)
+        self.see_images(self.completed())
+
+    def see_images(self, wanted):
+        self.folder.there = images_in(self.folder.path)
+        if self.folder.there != wanted:
             raise Difference("an image was changed")
+
+
+class DoubleCase(Case):
+    """One damaged double array."""
+
+    def changed(self):
+        disks, older = ({member: Disk(image, None, False) for member, image in images.items()} for images in (self.saved.now, self.saved.old))
+        for _ in range(self.rng.choice([1, 1, 1, 1, 2, 3])):
+            if disks:
+                self.told.append(self.rng.choice(between_doubles.CHANGES)(self.rng, disks, [older]))
+        return between_doubles.images_of(disks)
+
+    def completed(self):
+        kept = opening.reopened(self.images)
+        return {member: kept.behind[member] for member in self.images} if kept else self.images
 
 
 def words():
@@ -188,6 +223,7 @@ def words():
     parser.add_argument("--seed", type=int, default=1)
     parser.add_argument("--first", type=int, default=0)
     parser.add_argument("--minutes", type=float, default=1e9)
+    parser.add_argument("--doubles", type=int, default=2)
     parser.add_argument("--keep")
     return parser.parse_args()
 
@@ -199,10 +235,10 @@ def main():
         folder = Folder(os.path.join(base, "case"))
         for number in range(args.first, args.first + args.cases):
             if saved is None or number % CASES_OF_AN_ARRAY == 0:
-                seed = args.seed * 1_000_000 + number // CASES_OF_AN_ARRAY
+                at = number // CASES_OF_AN_ARRAY
                 os.mkdir(os.path.join(base, "made"))
-                saved = Saved(program, seed, os.path.join(base, "made"))
-            case = Case(program, folder, args.seed, number, saved)
+                saved = Saved(program, args.seed * 1_000_000 + at, os.path.join(base, "made"), "array" if at % args.doubles else "safe")
+            case = (Case if at % args.doubles else DoubleCase)(program, folder, args.seed, number, saved)
             try:
                 case.check()
             except Difference as difference:

@@ -16,7 +16,7 @@ import opening  # noqa: E402
 import stops  # noqa: E402
 import traces  # noqa: E402
 from ledger import Difference, Ledger, see  # noqa: E402
-from model import GOOD, Array  # noqa: E402
+from model import GOOD, array_of_line  # noqa: E402
 from replies import REFUSED, Play, answer_to, check_failed_answer, check_tail  # noqa: E402
 from saved import image_name, is_good  # noqa: E402
 
@@ -26,6 +26,11 @@ MEMORY = "/dev/shm"
 LAST_SAVES = 1 << 62
 NO_ARRAY = re.compile(rb"(no image in this folder|\d+ images?, none with a (label|label of its own|whole state behind its label))\n")
 TOLD_OF_FAILURES = re.compile(rb"(member-\d\d-\d\.img: [a-z]+: Input/output error\n|\d+ images?[^\n]*\n|no image in this folder\n)*")
+
+
+def good_of(array):
+    """The good members, by the array's first line."""
+    return {opening.member_of(array, m) for m in range(2 * array.b) if array.members[m // 2][m % 2] == GOOD}
 
 
 def new_folder():
@@ -77,7 +82,9 @@ class Run:
 
 
 class History:
-    """A history that is decided by its seed."""
+    """A history that is decided by its seed, of a plain array."""
+
+    word, changes = "array", between
 
     def __init__(self, program, seed, folder):
         self.program, self.folder = program, folder
@@ -106,8 +113,12 @@ class History:
         self.older.append(dict(self.disks))
         answer = opening.judge(self.images())
         if not isinstance(answer, str):
-            self.ledger.check_opened(answer, self.disks)
+            self.check_opened(answer)
             self.openable.append(dict(self.disks))
+
+    def check_opened(self, array):
+        """Sees that an array that was opened is as it was saved, where that can be told, and says of what it was made."""
+        return self.ledger.check_opened(array, self.disks)
 
     def change(self):
         is_open = self.openable and self.openable[-1] == self.disks
@@ -116,7 +127,7 @@ class History:
             self.disks = dict(self.rng.choice(self.openable))
             self.tell(["all members are as before an earlier run"])
         if self.rng.random() < (0.4 if self.is_back else 0.8):
-            self.tell(between.change_some(self.rng, self.disks, self.older))
+            self.tell(self.changes.change_some(self.rng, self.disks, self.older))
 
     def tell(self, changes):
         self.steps += changes
@@ -144,9 +155,13 @@ class History:
             raise Difference(f"the run ended with {run.ended}")
         return run.ended
 
+    def calls_of_save(self, array):
+        """About how many calls on images a save makes."""
+        return 6 * array.boundaries + 8
+
     def pick_stop(self, play):
         """How a trace is stopped, and the events that are answered before."""
-        rng, many = self.rng, 6 * play.array.boundaries + 8
+        rng, many = self.rng, self.calls_of_save(play.array)
         saves = [event for event, line in enumerate(play.lines) if line == "save" or event and play.lines[event - 1] == "save"]
         front = rng.choice(saves) if saves and rng.random() < 0.65 else rng.randrange(len(play.lines) + 1)
         few = [1, 1, 1, 2, 2, 3, 4, rng.randrange(1, many)]
@@ -155,7 +170,8 @@ class History:
 
     def play(self, words, array, lines, source=None):
         """A trace on an array, which is a blank one of a replay or was opened by the body of a member; what it leaves is judged."""
-        good = {m for m in range(2 * array.b) if array.members[m // 2][m % 2] == GOOD}
+        good = good_of(array)
+        self.begin(words, array)
         play = Play(array, lines)
         stop, front = self.pick_stop(play) if self.rng.random() < (0.25 if words == ["replay"] else 0.45) else (None, 0)
         run = Run(words, lines, stop)
@@ -163,6 +179,9 @@ class History:
         self.see_told(run)
         begun = self.see_replies(run, play)
         self.leave(run, play, begun, good, source)
+
+    def begin(self, words, array):
+        """A trace is to be played on this array, which the model changes then."""
 
     def see_told(self, run):
         told, status = run.ended.told, run.ended.status
@@ -235,8 +254,8 @@ class History:
                     raise Difference(f"the seal of member {member} is as it was, and something was written")
 
     def first_run(self):
-        lines = traces.first_trace(self.rng)
-        self.play(["replay"], Array(*map(int, lines[0].split(" ")[1:])), lines)
+        lines = traces.first_trace(self.rng, self.word)
+        self.play(["replay"], array_of_line(lines[0]), lines)
 
     def further_run(self):
         answer = opening.judge(self.images())
@@ -245,7 +264,7 @@ class History:
             self.refused_run(answer)
             return
         self.counts["opened"] += 1
-        self.counts[self.ledger.check_opened(answer, self.disks)] += 1
+        self.counts[self.check_opened(answer)] += 1
         if answer.is_sure:
             self.opened_run(answer)
         else:
@@ -273,11 +292,18 @@ class History:
             see("what was printed before the process was killed", b"", output)
         self.see_unchanged(self.folder.take())
 
+    def trace_for(self, array):
+        return traces.further_trace(self.rng, array)
+
+    def may_save(self, array):
+        """Whether there is a next save; else it is told as want of memory."""
+        return array.saves < LAST_SAVES
+
     def opened_run(self, array):
         words = ["resume"] if self.is_back else self.pick_words()
         if words == ["resume"]:
-            lines = traces.further_trace(self.rng, array)
-            lines = lines if array.saves < LAST_SAVES else [line for line in lines if line != "save"]
+            lines = self.trace_for(array)
+            lines = lines if self.may_save(array) else [line for line in lines if line != "save"]
             return self.play(words, array, lines, array.source)
         run = Run(words, (), self.pick_early_stop())
         output, status, *_ = self.do(run)

@@ -17,7 +17,7 @@ class Difference(Exception):
 # An image with the save of which it has the label and the body, if it is sealed, and whether its bytes, or bytes that were copied to it, were changed by hand.
 Disk = collections.namedtuple("Disk", "image save is_spoiled")
 # A state that was saved, or was to be when a run was stopped: good are the members that were good then.
-Save = collections.namedtuple("Save", "number body shape phase good sites pending homes copies recent blocks")
+Save = collections.namedtuple("Save", "number body shape phase good sites pending homes copies recent blocks live cut")
 
 
 def state_of(array):
@@ -28,7 +28,8 @@ def state_of(array):
 
 def save_of(array, number):
     good = good_members(array)
-    return Save(number, body_of(array, good), (array.l, array.n, array.b, array.k, array.m), array.phase(), good, *state_of(array))
+    shape = array.l, array.n, array.b, array.k, array.m
+    return Save(number, body_of(array, good), shape, array.phase(), good, *state_of(array), list(array.live), set(array.cut))
 
 
 def see(what, want, got):
@@ -82,6 +83,7 @@ class Ledger:
 
     def check_state(self, array, save):
         sites, pending, homes, copies, recent, blocks = state_of(array)
+        see("the boundaries in use, and the blocks that were cut", (save.live, save.cut), (array.live, array.cut))
         see("the saved sites", save.sites, sites)
         see("the saved homes", save.homes, homes)
         see("the files read last", save.recent, recent)
@@ -92,7 +94,7 @@ class Ledger:
             see("the phase", save.phase, array.phase())
             see("the saved copies", save.copies, copies)
         for block in range(array.n):
-            if not array.is_gone(block):
+            if not array.is_missing(block):
                 see(f"block {block} of the saved array", save.blocks[block], blocks[block])
 
     # images behind a run

@@ -7,6 +7,7 @@ import sys
 HERE = os.path.dirname(os.path.abspath(__file__))
 sys.path.append(os.path.join(HERE, "..", "soak"))
 from ledger import Difference, save_of, see  # noqa: E402
+from lines import FIRST  # noqa: E402
 from saved import Round  # noqa: E402
 
 REFUSED = {"nostate": 6, "unclean": 7}
@@ -15,7 +16,7 @@ MORE = {"cat": r"bytes [0-9a-f]+", "ls": r"entry .+", "tree": r"node .+", "pendi
 READ = r"unavailable|notfound|notdir|notregular|bad [a-z]+|not settled|cut 0"
 # The last line of a reply to an event that is begun when all calls on images fail.
 FAILED = {
-    "array": "ok", "write": r"degraded|range", "read": r"unavailable|range|data -", "fail": r"ok|already|range", "replace": r"failed|not out|lost \d+|range",
+    "array": "ok", "safe": "ok", "write": r"degraded|range", "read": r"unavailable|range|data -", "fail": r"ok|already|range", "replace": r"failed|not out|lost \d+|range",
     "rebuild": r"failed|lost \d+|not filling|range|copied 0 \d+", "settle": r"settled|lost \d+|malformed [a-z]+ \d+|nospace .+",
     "tend": r"tended 0 \d+|lost \d+|nospace .+", "diffuse": r"diffused 0|not settled|lost \d+", "who": r".+", "pending": r"end \d+", "cat": READ,
     "ls": READ, "tree": READ, "home": READ, "lostfiles": READ, "save": r"lost \d+|not saved", "regroup": r"whole|too few|regrouped \d+ \d+",
@@ -35,7 +36,7 @@ class Play:
         self.array, self.lines = array, lines
         self.pieces, self.saves, self.written, self.wrote = [], {}, [frozenset(array.written())], []
         for event, line in enumerate(lines):
-            reply = ["ok"] if line.startswith("array ") else array.do(line)
+            reply = ["ok"] if line.split(" ")[0] in FIRST else array.do(line)
             if reply[-1].startswith("saved "):
                 self.saves[event] = save_of(array, int(reply[-1].split(" ")[1]))
             self.pieces.append("".join(f"{part}\n" for part in reply).encode("latin-1"))
@@ -64,7 +65,7 @@ def writes_surely(word, last):
         return last == ["ok"]
     if word in ("rebuild", "tend"):
         return last[0] in ("copied", "tended") and int(last[1]) > 0
-    return word == "array" or last[0] == "regrouped"
+    return word in FIRST or last[0] == "regrouped"
 
 
 def answer_to(array, words):

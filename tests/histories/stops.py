@@ -22,8 +22,9 @@ SECONDS = 60
 PAGE = 512
 # On x86-64: the numbers of the other calls that may be on an image, and the places of a call's answer and of its second value.
 OPEN_AT, TRUNCATE, FLUSH, FLUSH_DATA = 257, 77, 74, 75
-ANSWER, PATH = 8 * 10, 8 * 13
+ANSWER, PATH, PLACE = 8 * 10, 8 * 13, 8 * 7
 CALLS = (OPEN_AT, READ_AT, WRITE_AT, TRUNCATE, FLUSH, FLUSH_DATA)
+WRITING = (WRITE_AT, TRUNCATE)
 GO_ON, SEES_FILTER, ENDS_WITH_TRACER, FILTER_STOP = 7, 1 << 7, 1 << 20, signal.SIGTRAP | 7 << 8
 INPUT_OUTPUT_ERROR = 5
 NO_NEW_PRIVILEGES, SET_FILTER, BY_PROGRAM = 38, 22, 2
@@ -111,10 +112,13 @@ class Traced:
         self.put(ANSWER, -INPUT_OUTPUT_ERROR)
 
     def tear(self):
-        """A write of more than a page does some pages of it alone."""
-        pages = self.get(COUNT) // PAGE
-        if self.get(NUMBER) == WRITE_AT and pages > 1:
-            self.put(COUNT, PAGE * (pages // 2))
+        """A write of more than a page does some pages of it alone; one of less, behind the headers, some bytes."""
+        if self.get(NUMBER) != WRITE_AT:
+            return
+        count = self.get(COUNT)
+        part = PAGE * (count // PAGE // 2) or (count // 2 if self.get(PLACE) >= 2 * PAGE else 0)
+        if part:
+            self.put(COUNT, part)
             self.goes_on(SYSCALL)
 
     def end(self):
@@ -123,13 +127,13 @@ class Traced:
             os.waitpid(self.pid, 0)
 
 
-def go_through(process, stop, printed):
-    """Lets the process run, and stops it as it is to be. How much was printed then."""
+def go_through(process, stop, printed, counted):
+    """Lets the process run, and stops it as it is to be, at one of the calls that are counted. How much was printed then."""
     calls, stopped = 0, None
     while process.goes_on():
         if stopped is None and printed() < stop.behind or not process.is_on_image():
             continue
-        calls += 1
+        calls += process.get(NUMBER) in counted
         if calls < stop.call:
             continue
         if stopped is None:
@@ -143,8 +147,8 @@ def go_through(process, stop, printed):
     return stopped
 
 
-def stopped_run(program, words, folder, trace, stop):
-    """A run that is stopped at a call; it goes to its end where there is no such call."""
+def stopped_run(program, words, folder, trace, stop, counted=CALLS):
+    """A run that is stopped at a call, of those that are counted; it goes to its end where there is no such call."""
     with tempfile.TemporaryFile() as given, tempfile.TemporaryFile() as output, tempfile.TemporaryFile() as told:
         given.write(trace)
         given.seek(0)
@@ -152,7 +156,7 @@ def stopped_run(program, words, folder, trace, stop):
         signal.signal(signal.SIGALRM, late)
         signal.alarm(SECONDS)
         try:
-            stopped = go_through(process, stop, lambda: os.fstat(output.fileno()).st_size)
+            stopped = go_through(process, stop, lambda: os.fstat(output.fileno()).st_size, counted)
         finally:
             signal.alarm(0)
             process.end()

@@ -115,14 +115,14 @@ def with_saves(rng, lines, often):
     return out + ["save"] * (rng.random() < 0.8)
 
 
-def first_trace(rng):
+def first_trace(rng, word="array"):
     """The lines of a replay, and whether there is a volume."""
     has_volume = rng.random() < 0.35
     shape = shape_of(rng, has_volume)
     lines = volume_writes(rng) if has_volume else []
     lines += copies(rng) if has_volume and rng.random() < 0.6 else []
     lines += mixed(rng, shape, rng.choice([0, 2, 6, 12]) if has_volume else rng.randrange(1, 25))
-    return [f"array {' '.join(map(str, shape))}", *with_saves(rng, lines, 0.05)]
+    return [f"{word} {' '.join(map(str, shape))}", *with_saves(rng, lines, 0.05)]
 
 
 def short_trace(rng, shape):
@@ -134,7 +134,7 @@ def short_trace(rng, shape):
 
 def further_trace(rng, array):
     """The lines of a resume on an array."""
-    shape = array.l, array.n, array.b, array.k, array.m
+    shape = array.l, array.n, array.boundaries, array.k, array.m
     kind = rng.random()
     if kind < 0.15:
         return [line for line in mixed(rng, shape, rng.randrange(12)) if line.split(" ")[0] in READING]

@@ -17,6 +17,8 @@ sys.dont_write_bytecode = True
 sys.path.insert(0, HERE)
 import opening  # noqa: E402
 import opened  # noqa: E402
+import wrong_doubles  # noqa: E402
+from doubles import DoubleHistory  # noqa: E402
 from history import Folder, History, new_folder  # noqa: E402
 from ledger import Difference  # noqa: E402
 from saved import Label  # noqa: E402
@@ -221,7 +223,11 @@ OUTPUTS = {
 }
 
 
-class WrongHistory(History):
+# a double array is unclean only where somebody has changed its labels
+DOUBLE_OUTPUTS = {name: part for name, part in OUTPUTS.items() if part is not tells_no_state}
+
+
+class Wrong:
     """A history of a program behind which its images or its output are changed."""
 
     change_images = change_output = None
@@ -235,10 +241,18 @@ class WrongHistory(History):
         return run.ended
 
 
-def find(program, most, folder, images=None, output=None):
+class WrongHistory(Wrong, History):
+    """Of a plain array."""
+
+
+class WrongDouble(Wrong, DoubleHistory):
+    """Of a double array."""
+
+
+def find(program, most, folder, kind, images=None, output=None):
     """In which history a difference is found, or None."""
     for number in range(most):
-        one = WrongHistory(program, f"wrong {number}", folder)
+        one = kind(program, f"wrong {number}", folder)
         one.change_images, one.change_output = images, output
         try:
             one.go()
@@ -247,17 +261,23 @@ def find(program, most, folder, images=None, output=None):
     return None
 
 
-def find_reader(program, most, folder, parts):
+def find_reader(program, most, folder, kind, parts):
     """As `find`, with these parts of a reader in place of the right ones."""
-    places = {"judge": (opening, "judge"), "label_of": (opening, "label_of"), "decode": (opened, "decode")}
+    places = {"judge": (opening, "judge"), "label_of": (opening, "label_of"), "decode": (opened, "decode"), **wrong_doubles.PLACES}
     before = {name: getattr(*places[name]) for name in parts}
     try:
         for name, part in parts.items():
             setattr(*places[name], part)
-        return find(program, most, folder)
+        return find(program, most, folder, kind)
     finally:
         for name, part in before.items():
             setattr(*places[name], part)
+
+
+TABLES = (
+    (WrongHistory, "reader", READERS), (WrongHistory, "images", IMAGES), (WrongHistory, "output", OUTPUTS),
+    (WrongDouble, "reader", wrong_doubles.READERS), (WrongDouble, "images", wrong_doubles.IMAGES), (WrongDouble, "output", DOUBLE_OUTPUTS),
+)
 
 
 def find_all(program, most, only=""):
@@ -265,12 +285,14 @@ def find_all(program, most, only=""):
     found = {}
     with new_folder() as path:
         folder = Folder(path)
-        for kind, table in (("reader", READERS), ("images", IMAGES), ("output", OUTPUTS)):
+        for kind, way, table in TABLES:
             for name, part in table.items():
                 if only in name:
                     folder.take()
-                    found[name] = find_reader(program, most, folder, part) if kind == "reader" else find(program, most, folder, **{kind: part})
-                    print(f"{kind}: {name}: " + ("not found" if found[name] is None else f"history {found[name]}"), flush=True)
+                    given = program, most, folder, kind
+                    number = find_reader(*given, part) if way == "reader" else find(*given, **{way: part})
+                    found[kind, name] = number
+                    print(f"{kind.word}: {way}: {name}: " + ("not found" if number is None else f"history {number}"), flush=True)
     return found
 
 

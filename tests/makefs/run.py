@@ -1,12 +1,15 @@
 #!/usr/bin/env python3
 """Random folders as volumes that makefs makes: tests/makefs/run.py [PROGRAM] [--rounds N] [--seed S] [--keep FOLDER]
 
+First one folder stands as a volume in both orders of bytes on plain and on safe arrays of four boundaries, with three places of the naming, and what
+`tools/rescue.py` brings of each is compared with it, with none, one, two and three of the boundaries lost.
+
 Each round makes a folder of files, directories, links and pipes, and a UFS1 image of it by NetBSD's makefs (Debian's package of that
-name), in either order of bytes, with fragments of 512 to 4096 bytes. An audit finds no malformation on it. `trace`, `replay` and `resume` take it to a settled, saved array.
-Then each file's bytes and each directory's entries are compared with the folder's: with all boundaries, with some lost, and once a member
-was replaced, refilled, and serves alone; and what `tools/rescue.py` brings is compared with the folder, byte by byte. With fewer than m boundaries lost, a file must be given whole exactly where its home isn't lost, or its
-copy isn't, and each directory must be listed; with more, each answer must be right or `unavailable`. The status is 1 where an answer is wrong;
-without makefs nothing is run, which is told.
+name), in either order of bytes, with fragments of 512 to 4096 bytes. An audit finds no malformation on it. `trace`, `replay` and `resume` take it to a settled,
+saved array. Then each file's bytes and each directory's entries are compared with the folder's: with all boundaries, with some lost, and once a member
+was replaced, refilled, and serves alone; and what `tools/rescue.py` brings is compared with the folder, byte by byte. With fewer than m boundaries lost, a
+file must be given whole exactly where its home isn't lost, or its copy isn't, and each directory must be listed; with more, each answer must be right or
+`unavailable`. The status is 1 where an answer is wrong; without makefs nothing is run, which is told.
 """
 import argparse
 import os
@@ -177,12 +180,17 @@ def entries_of(lines):
 
 # ---- a round
 
-def image_of(rng, folder, image):
-    """Makes the image of a folder; what was asked of makefs."""
+def form_of(rng):
+    """An order of bytes, and the bytes of a fragment and of a block."""
     fragment = rng.choice([512, 1024, 1024, 2048, 4096])
     block = rng.choice([size for size in (4096, 8192, 16384, 32768) if 1 <= size // fragment <= 8])
+    return rng.choice(["le", "be"]), fragment, block
+
+
+def image_of(form, folder, image):
+    """Makes the image of a folder; what was asked of makefs."""
+    order, fragment, block = form
     options = f"version=1,fsize={fragment},bsize={block},density=2048,minfree=0"
-    order = rng.choice(["le", "be"])
     size = sum(os.lstat(os.path.join(here, name)).st_size + block for here, folders, files in os.walk(folder) for name in folders + files)
     size = (2 * size + (4 << 20)) // block * block
     made = subprocess.run(["makefs", "-t", "ffs", "-B", order, "-s", str(size), "-o", options, image, folder],
@@ -190,7 +198,7 @@ def image_of(rng, folder, image):
     asked = f"makefs -B {order} -s {size} -o {options}"
     if made.returncode != 0:
         raise Wrong(f"{asked}: {made.stdout[-300:]}")
-    return asked, fragment
+    return asked
 
 
 def homes_of(lines, folder):
@@ -262,9 +270,10 @@ def rescue(array, top, folder, lost, places, out):
     told = [line.split(b" ") for line in done.stdout.split(b"\n")[:-2]]
     unlisted = [unspelled(words[1]).rstrip(b"/") for words in told if words[0] == b"unlisted"]
     named = {unspelled(words[1]): int(words[2]) for words in told if words[0] == b"lost"}
-    if done.stderr or unlisted and len(lost) < places or done.returncode != bool(named or unlisted):
+    skipped = {unspelled(words[1]) for words in told if words[0] == b"skipped"}
+    if done.stderr or unlisted and len(lost) < places or len(told) != len(unlisted) + len(named) + len(skipped) or done.returncode != bool(told):
         raise Wrong(f"a rescue with {lost} lost: status {done.returncode}, {unlisted[:3]}, {done.stderr[:300]}")
-    brought = 0
+    brought, names = 0, {}
     for here, folders, files in os.walk(top):
         for name in folders + files:
             at = os.path.join(here, name)
@@ -274,10 +283,16 @@ def rescue(array, top, folder, lost, places, out):
                 same = os.path.islink(to) and os.readlink(to) == os.readlink(at)
             elif stat.S_ISREG(mode):
                 same = os.path.isfile(to) and open(to, "rb").read() == folder.files[path]
+                if same and os.stat(to).st_ino != names.setdefault(os.lstat(at).st_ino, os.stat(to).st_ino):
+                    raise Wrong(f"{path!r} with {lost} lost: its two names are two files")
             else:
+                same = None
+            below = any(path.startswith(directory + b"/") for directory in unlisted)
+            if same is None:
+                if stat.S_ISFIFO(mode) and not below and path not in skipped:
+                    raise Wrong(f"the pipe {path!r} isn't named")
                 continue
             brought += same
-            below = any(path.startswith(directory + b"/") for directory in unlisted)
             if not same and (os.path.lexists(to) or not below and named.get(path) != os.lstat(at).st_size):
                 raise Wrong(f"a rescue of {path!r} with {lost} lost")
             if same and path in named:
@@ -295,14 +310,42 @@ def audited(array, image, asked):
     return lines
 
 
+def rescues(program, base):
+    """A folder in both orders of bytes on arrays of both kinds, and what comes out of each without some boundaries; a line about each."""
+    rng = random.Random(1)
+    top = os.path.join(base, "folder")
+    make_folder(rng, os.fsencode(top), 150, 300_000)
+    folder = Folder(os.fsencode(top))
+    entries = len(folder.files) + sum(kind == "l" for listing in folder.listings.values() for kind, _, _ in listing)
+    for order in ("le", "be"):
+        image = os.path.join(base, order)
+        image_of((order, 1024, 8192), top, image)
+        with open(image, "rb") as file:
+            _, trace = Array(program, base).run(["trace", "late", "4", str(os.path.getsize(image) // 2048), "3"], file.read())
+        for word in (b"array", b"safe"):
+            array = Array(program, os.path.join(base, f"{order}-{word.decode()}"))
+            os.mkdir(array.folder)
+            events = (word + trace.removeprefix(b"array")).split(b"\n")[:-1]
+            if array.replies("replay", [*events, b"settle", b"save"]) != [b"ok"] * len(events) + [b"settled", b"saved 1"]:
+                raise Wrong(f"{order} {word}: not saved")
+            brought = []
+            for count in range(4):
+                lost = sorted(rng.sample(range(4), count))
+                brought.append(rescue(array.copied(os.path.join(base, "work")), os.fsencode(top), folder, lost, 3, os.path.join(base, "out")))
+            if brought[0] != entries:
+                raise Wrong(f"{order} {word}: {brought[0]} of {entries} files and links")
+            yield f"{order}, {word.decode()}: " + ", ".join(f"{number} with {count} lost" for count, number in enumerate(brought)) + f", of {entries} files and links"
+
+
 def one_round(seed, program, base):
     """One folder, its image, its array, and what it gives; a line about it."""
     rng = random.Random(seed)
     top, image, work = (os.path.join(base, name) for name in ("folder", "image", "work"))
     make_folder(rng, os.fsencode(top), rng.choice([3, 30, 150, 400]), rng.choice([20_000, 300_000, 6_000_000]))
-    asked, fragment = image_of(rng, top, image)
+    form = form_of(rng)
+    asked = image_of(form, top, image)
     folder = Folder(os.fsencode(top))
-    blocks = os.path.getsize(image) // fragment
+    blocks = os.path.getsize(image) // form[1]
     boundaries = rng.choice([b for b in (2, 3, 4, 8, 16) if b * blocks <= 1 << 21])
     places = rng.randint(1, boundaries)
     words = [rng.choice(["up", "down", "late"]), str(boundaries), str(blocks), str(places)]
@@ -341,6 +384,13 @@ def main():
         print("skipped: makefs isn't installed")
         return
     wrong = 0
+    with tempfile.TemporaryDirectory() as base:
+        try:
+            for line in rescues(program, base):
+                print(f"rescues: {line}", flush=True)
+        except Wrong as why:
+            wrong += 1
+            print(f"rescues: WRONG: {why}", flush=True)
     for seed in range(given.seed, given.seed + given.rounds):
         with tempfile.TemporaryDirectory() as base:
             try:
@@ -350,7 +400,7 @@ def main():
                 print(f"seed {seed}: WRONG: {why}", flush=True)
                 if given.keep:
                     subprocess.run(["cp", "-a", "--sparse=always", base, os.path.join(given.keep, str(seed))], check=True)
-    print(f"{given.rounds} rounds, {wrong} wrong")
+    print(f"{given.rounds} rounds and the rescues, {wrong} wrong")
     sys.exit(wrong > 0)
 
 

@@ -4,7 +4,7 @@
 
 The images have one byte more than 33 MiB, so that one which is held in twice its bytes shows: zeros, whose superblock is refused; and the volume F of
 the rows with zeros behind it, which is longer than its volume. Each is given as a file and through a pipe. SHIM (built of refuse.c) counts the bytes
-that the program holds. There may be as many as the image has, a sixteenth of them (by which a buffer grows), two pieces of what is read at once, and
+that the program holds. There may be as many as the image has, the 1 MiB for which room is taken at once, two pieces of what is read at once, and
 256 KiB for all else. The replies must be those to the image that they rest on alone. The status is 1 where one of this isn't so.
 """
 import os
@@ -20,6 +20,7 @@ SECONDS = 60
 USAGE = 1
 LENGTH = (33 << 20) + 1
 PIECE = 65536
+ROOM = 1 << 20
 REST = 256 << 10
 VOLUME = b"".join(F)
 NONE = bytes(9568)
@@ -55,7 +56,7 @@ def main():
                     sys.exit(f"{' '.join(words)}, the short image that is {name}: {wanted}")
                 for piped in [False, True]:
                     ended, most = run(program, shim, counter, words, image, piped)
-                    good = ended == wanted and 0 < most <= len(image) + len(image) // 16 + 2 * PIECE + REST
+                    good = ended == wanted and 0 < most <= len(image) + ROOM + 2 * PIECE + REST
                     wrong += not good
                     print(f"{' '.join(words)}, an image that is {name}, {'a pipe' if piped else 'a file'}: {len(image)} bytes, {most} held at once"
                           f"{'' if ended == wanted else ', and other replies'}{'' if good else ': WRONG'}", flush=True)

@@ -42,7 +42,7 @@ class Broken(Trace):
     """A volume, and places in it that are broken."""
 
     def __init__(self, seed):
-        super().__init__(seed)
+        super().__init__(seed, "array")
         for block, data in enumerate(self.goal):
             self.array.blocks[block] = data
         self.array.set_block(0, self.array.blocks[0])

@@ -7,11 +7,13 @@ else the trace ends soon, since nothing can be written any more.
 import random
 
 from image import GROUP_PLACES, INODE_PLACES, Image, Item, MODES, NoRoom, directory_bytes, make_geometry
-from lines import damaged, refusal
-from model import GOOD, OUT, Array, Filling, spelled, unspelled
+from lines import FIRST, damaged, refusal
+from model import GOOD, OUT, Filling, array_of_line, spelled, unspelled
 from volume import FIELDS, ROOT, SUPER_AT, Refused, group_start, inode_places, read_chunk, roles, up
 
 LONGEST_FILE = 40_000
+# how often an event of an array that keeps a checkpoint is a save
+SAVES = 0.03
 NAMES = [b"a", b"b", b"c", b"file", b"sub", b"x y", b"\\", b"\x01\xff", b"N" * 255, b"...", b"-", b"e\xcc\x81"]
 
 
@@ -109,7 +111,7 @@ def paths_of(items):
 class Trace:
     """A trace that is being made, with the replies so far."""
 
-    def __init__(self, seed):
+    def __init__(self, seed, word):
         self.rng = rng = random.Random(seed)
         self.lines, self.replies, self.tail = [], [], ""
         l, n = rng.choice([512, 1024]), rng.randrange(64, 257)
@@ -118,8 +120,8 @@ class Trace:
         least = rng.randrange(2, b + 1) if rng.random() < 0.6 else b
         k = up(n, least) + rng.choice([0, 0, rng.randrange(1, 9), rng.randrange(n)])
         m = rng.randrange(1, least + 1) if rng.random() < 0.5 else rng.choice([1, min(least, 2), min(least, 3)])
-        self.array = Array(l, n, b, k, m)
-        self.lines.append(f"array {l} {n} {b} {k} {m}")
+        self.lines.append(f"{word} {l} {n} {b} {k} {m}")
+        self.array = array_of_line(self.lines[0])
         self.replies.append(["ok"])
         self.queue = []
         self.often, self.over = 0.012 if least < b else 0.001, False
@@ -434,6 +436,8 @@ class Trace:
     def step(self):
         rng = self.rng
         kind = rng.random()
+        if self.array.is_double and rng.random() < SAVES:
+            self.do("save")
         if rng.random() < self.often:
             self.go_without()
         elif self.queue and kind < 0.75:
@@ -486,6 +490,8 @@ class Trace:
         for _ in range(rng.choice([1, 1, 1, 2])):
             self.lose_one()
         self.do("regroup")
+        if self.array.is_double:
+            self.do("save")
         self.over = bool(self.array.lost())
         if rng.random() < 0.7:
             self.do("settle")
@@ -545,17 +551,17 @@ class Case:
         return len(self.lines) + bool(self.tail)
 
 
-def make(seed, events):
-    """A trace of about so many events."""
+def make(seed, events, word="array"):
+    """A trace of about so many events, whose first line has this word."""
     rng = random.Random(-seed - 1)
     if rng.random() < 0.002:
         return Case([], "", [["line 1 cut"]])
     if rng.random() < 0.02:
-        tail = damaged(rng, rng.choice(["array 512 64 2 64 2", "read 1"]), 512)
+        tail = damaged(rng, rng.choice([f"{word} 512 64 2 64 2", "read 1"]), 512)
         kind = refusal(tail, 1, 512)
         if kind:
             return Case([], tail, [[f"line 1 {kind}"]])
-    trace = Trace(seed)
+    trace = Trace(seed, word)
     while len(trace.lines) < events * 0.8 and not trace.over:
         trace.step()
     trace.lose()
@@ -568,7 +574,7 @@ def read_case(text):
     """The trace in a text."""
     lines = text.split("\n")
     tail = lines.pop()
-    lines, l = list(lines), int(lines[0].split(" ")[1]) if lines and lines[0].startswith("array ") else 512
+    lines, l = list(lines), int(lines[0].split(" ")[1]) if lines and lines[0].split(" ")[0] in FIRST else 512
     for place, line in enumerate([line + "\n" for line in lines] + [tail] * bool(tail), 1):
         kind = refusal(line, place, l)
         if kind:
@@ -580,5 +586,5 @@ def replay(lines):
     """The model's replies to some lines, the first of which makes the array."""
     if not lines:
         return []
-    array = Array(*map(int, lines[0].split(" ")[1:]))
+    array = array_of_line(lines[0])
     return [["ok"], *(array.do(line) for line in lines[1:])]

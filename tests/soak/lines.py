@@ -2,9 +2,10 @@
 import re
 
 NUMBERS = {
-    "array": 5, "write": 1, "read": 1, "fail": 2, "replace": 2, "rebuild": 2, "settle": 0, "tend": 1, "diffuse": 0, "who": 1,
+    "array": 5, "safe": 5, "write": 1, "read": 1, "fail": 2, "replace": 2, "rebuild": 2, "settle": 0, "tend": 1, "diffuse": 0, "who": 1,
     "pending": 0, "cat": 0, "ls": 0, "tree": 0, "home": 0, "save": 0, "audit": 0, "regroup": 0, "lostfiles": 0, "drop": 2, "mend": 2,
 }
+FIRST = ("array", "safe")
 TAILS = {"write": "hex", "cat": "path", "ls": "path", "home": "path"}
 
 
@@ -50,14 +51,14 @@ def refusal(line, place, l):
     word, *rest = words
     if word not in NUMBERS:
         return "word"
-    if (word == "array") != (place == 1):
+    if (word in FIRST) != (place == 1):
         return "order"
     count = NUMBERS[word]
     if len(rest) != count + (word in TAILS) or "" in words:
         return "form"
     if not all(map(is_number, rest[:count])):
         return "number"
-    if word == "array" and not keeps_limits(*map(int, rest)):
+    if word in FIRST and not keeps_limits(*map(int, rest)):
         return "limits"
     if TAILS.get(word) == "hex" and not is_hex(rest[-1], l):
         return "hex"
@@ -95,8 +96,8 @@ def damaged(rng, line, l):
         longest = 2 * l + 4201
         return "write 1 " + "a" * (longest - 8 + rng.choice([-2, -1, 0, 1])) + rng.choice(["", "\n"])
     elif kind == 10:
-        words[0] = rng.choice(["reed", "Read", "arrays", "", "settle", "tree", "array", "pending", "save", "regroups", "lostfiles", "lost", "drop"])
+        words[0] = rng.choice(["reed", "Read", "arrays", "", "settle", "tree", "array", "pending", "save", "regroups", "lostfiles", "lost", "drop", "safe", "safer"])
     else:
         limits = [[512, 513, 4096, 8192, 0], [0, 1, 64, 1 << 20, (1 << 20) + 1], [1, 2, 16, 17], [1, 4, 64, 1 << 20, (1 << 20) + 1], [0, 1, 2, 17]]
-        words = ["array", *(str(rng.choice(values)) for values in limits)]
+        words = [rng.choice(FIRST), *(str(rng.choice(values)) for values in limits)]
     return " ".join(words) + "\n"

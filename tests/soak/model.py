@@ -21,6 +21,12 @@ def spelled(name):
     return "".join(chr(c) if 0x21 <= c <= 0x7E and c != 0x5C else f"\\x{c:02x}" for c in name)
 
 
+def array_of_line(line):
+    """The array that a first line makes."""
+    word, *numbers = line.split(" ")
+    return Array(*map(int, numbers), word == "safe")
+
+
 def unspelled(path):
     """The bytes of a path's word."""
     parts = path.split("\\x")
@@ -30,8 +36,10 @@ def unspelled(path):
 class Array:
     """An array and its volume; `do` takes an event's line and gives the lines of its reply."""
 
-    def __init__(self, l, n, b, k, m):
+    def __init__(self, l, n, b, k, m, is_double=False):
         self.l, self.n, self.b, self.k, self.m = l, n, b, k, m
+        # whether it keeps a checkpoint: its first line is `safe`
+        self.is_double = is_double
         self.boundaries, self.live, self.cut = b, list(range(b)), set()
         self.blocks = [bytes(l)] * n
         self.sites = [[] for _ in range(n)]
@@ -457,9 +465,9 @@ class Array:
         return "unavailable" if any(map(self.is_gone, audit.structure())) else audit.lines()
 
     def do_save(self):
-        if self.b < self.boundaries:
+        if self.b < self.boundaries and not self.is_double:
             return "not saved"
         if all(GOOD not in pair for pair in self.members):
-            return "lost 0"
+            return self.lost_reply()
         self.saves += 1
         return f"saved {self.saves}"

@@ -20,7 +20,8 @@ import tempfile
 import time
 
 from generate import make
-from model import GOOD, OUT, Array, Filling, unspelled
+from lines import FIRST
+from model import GOOD, OUT, array_of_line
 
 SECONDS = 120
 LABEL = struct.Struct("<7scQcBBB6I")
@@ -135,9 +136,9 @@ class Round:
                 self.saved[self.last] = (copy.deepcopy(self.array), good, body_of(self.array, good))
                 self.labels.update((member, self.last) for member, mark in enumerate(good) if mark)
                 self.wrote = self.may_have = False
-        elif word == "array" or word == "write" and last == ["ok"] or word == "replace" and last == ["ok"]:
+        elif word in FIRST or word == "write" and last == ["ok"] or word == "replace" and last == ["ok"]:
             self.wrote = True
-            if word == "array":
+            if word in FIRST:
                 self.labels = dict.fromkeys(range(2 * self.array.boundaries), 0)
             elif word == "replace":
                 s, j = map(int, line.split(" ")[1:])
@@ -153,8 +154,8 @@ class Round:
     def replies(self, lines):
         told = []
         for line in lines:
-            if line.startswith("array "):
-                self.array = Array(*map(int, line.split(" ")[1:]))
+            if line.split(" ")[0] in FIRST:
+                self.array = array_of_line(line)
                 told.append(["ok"])
             else:
                 before = sum(map(len, self.array.sites))
@@ -254,7 +255,7 @@ class Round:
         for s, pair in enumerate(array.members):
             good = [j for j in (0, 1) if pair[j] == GOOD]
             state = "both" if len(good) == 2 else f"half {good[0]}" if good else "lost 0"
-            lines.append(f"boundary {s} {state} {array.used(s)}")
+            lines.append(f"boundary {array.live[s]} {state} {array.used(s)}")
         return "".join(line + "\n" for line in lines).encode()
 
     def see_commands(self, array):

@@ -1,5 +1,5 @@
 """Changes of the images of two members: of their headers, tables, pages and lengths, and of which is whose."""
-from reading import FIELDS, PAGE, header_in, table_of
+from reading import FIELDS, LABELS, MAGIC, PAGE, header_in, table_of
 
 SEQUENCE, MARK, MEMBER, SIZE, ROOM, EXTRA = (8, 8), (16, 1), (17, 1), (24, 8), (32, 4), (36, 4)
 FIELDS_OF_HEADER = (SEQUENCE, MARK, MEMBER, SIZE, ROOM, EXTRA)
@@ -91,6 +91,12 @@ def clear_headers(rng, images, member):
         images[member] = put(image, *rng.choice(((0, bytes(PAGE)), (PAGE, bytes(PAGE)), (0, bytes(2 * PAGE)))))
 
 
+def begin(rng, images, member):
+    """A member that begins as the label of a plain array, or nearly so."""
+    words = (*LABELS, *LABELS, LABELS[0][:-1] + b"3", MAGIC)
+    images[member] = put(images[member], 0, rng.choice(words))
+
+
 def exchange(rng, images, member):
     """Members in the place of one another, or one as both."""
     other = (member + 1) % len(images)
@@ -100,7 +106,7 @@ def exchange(rng, images, member):
         images[member] = images[other]
 
 
-CHANGES = (change_byte, change_field, change_field, change_mark, copy_header, change_table, tear_page, change_length, clear_headers, exchange)
+CHANGES = (change_byte, change_field, change_field, change_mark, copy_header, change_table, tear_page, change_length, clear_headers, begin, exchange)
 
 
 def damaged(rng, images):

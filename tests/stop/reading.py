@@ -3,34 +3,14 @@
 A member is the bytes of its image, or None where there is no such one.
 """
 import collections
-import struct
+import os
+import sys
 
-PAGE = 512
-MAGIC = b"DGRAID-S"
-MARKS = {0x50: False, 0x43: True}
-PAST_SEQUENCES = 1 << 62
-FIELDS = struct.Struct("<8sQBB6sQII")
+sys.path.append(os.path.join(os.path.dirname(os.path.abspath(__file__)), "..", "..", "tools"))
+from rescue import FIELDS, LABELS, MAGIC, MARKS, PAGE, PAST_SEQUENCES, bits_of, header_on, pages_of, table_of, taken  # noqa: E402, F401
 
-Header = collections.namedtuple("Header", "sequence committed size room extra")
-
-
-def pages_of(size):
-    return -(-size // PAGE)
-
-
-def bits_of(size):
-    """Bytes of the bits of a table."""
-    return -(-pages_of(size) // 8)
-
-
-def table_of(size, room):
-    """Bytes of a table: its bits and the room for extra bytes, up to whole pages."""
-    return -(-(bits_of(size) + room) // PAGE) * PAGE
-
-
-def length_of(size, room):
-    """Bytes of a member behind."""
-    return 2 * PAGE + 2 * table_of(size, room) + 2 * PAGE * pages_of(size)
+# top: the greatest sequence that was seen; last: that of the last commit, None where none is committed; by member its bytes, if it is attached, and its image behind
+Reopened = collections.namedtuple("Reopened", "top last room extra entries behind")
 
 
 def header_bytes(member, header):
@@ -42,15 +22,7 @@ def header_bytes(member, header):
 
 def header_in(image, place, member):
     """The header that counts in one of the two places of a member; None where none does."""
-    page = image[PAGE * place : PAGE * (place + 1)]
-    if len(page) < PAGE or any(page[FIELDS.size :]):
-        return None
-    magic, sequence, mark, owner, zeros, size, room, extra = FIELDS.unpack_from(page)
-    is_form = magic == MAGIC and mark in MARKS and not any(zeros)
-    in_bounds = 1 <= sequence < PAST_SEQUENCES and sequence % 2 == place and extra <= room
-    if not is_form or not in_bounds or owner != member or length_of(size, room) != len(image):
-        return None
-    return Header(sequence, MARKS[mark], size, room, extra)
+    return header_on(image, len(image), place, member)
 
 
 def headers_of(images):
@@ -90,25 +62,32 @@ def next_after(last, top):
     return top + 1 if (top + 1) % 2 != last % 2 else top + 2
 
 
-def opened(images):
-    """The line that an opening of two members is to print."""
+def reopened(images):
+    """What an opening finds of these members: None where none has a header that counts."""
     found = headers_of(images)
     if not found:
-        return "plain"
+        return None
     top = max(header.sequence for header in found.values())
-    committed = {where: header for where, header in found.items() if header.committed}
-    if not committed:
-        return " ".join(["double 0 -", *["-"] * len(images), *map(shown, images), "lost"])
-    last = max(header.sequence for header in committed.values())
-    lead = next(header for _, header in sorted(committed.items()) if header.sequence == last)
-    entries, behind, extra = [None] * len(images), list(images), None
-    for (member, place), header in sorted(found.items()):
-        if (header.sequence, header.room, header.extra) != (last, lead.room, lead.extra):
-            continue
+    entries, behind = [None] * len(images), list(images)
+    attached = taken(found)
+    if not attached:
+        return Reopened(top, None, 0, b"", entries, behind)
+    extra = None
+    for (member, place), header in attached.items():
         entries[member], its_extra = entry(images[member], header)
         extra = its_extra if extra is None else extra
         page = header_bytes(member, header._replace(committed=True))
         behind[member] = images[member][: PAGE * place] + page + images[member][PAGE * (place + 1) :]
+    return Reopened(top, header.sequence, header.room, extra, entries, behind)
+
+
+def opened(images):
+    """The line that an opening of two members is to print."""
+    found = reopened(images)
+    if found is None:
+        return "plain"
+    if found.last is None:
+        return " ".join(["double 0 -", *["-"] * len(images), *map(shown, images), "lost"])
     # at the last sequences no commit is made
-    after = "lost" if top >= PAST_SEQUENCES - 64 else str(next_after(last, top))
-    return " ".join([f"double {lead.room} {extra.hex() or '-'}", *map(shown, entries), *map(shown, behind), after])
+    after = "lost" if found.top >= PAST_SEQUENCES - 64 else str(next_after(found.last, found.top))
+    return " ".join([f"double {found.room} {found.extra.hex() or '-'}", *map(shown, found.entries), *map(shown, found.behind), after])

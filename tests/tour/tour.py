@@ -1,8 +1,8 @@
 """Runs the commands of docs/TOUR.md in a folder of their own, and compares what each prints with the page.
 
 A block of the page that begins with ```console has lines `$ COMMAND`, which may go on in lines `> REST`, each with its output
-below it. Where the first line names programs behind `console`, the block is skipped if one of them isn't there. `dgraid` is the
-built program, and `tools` leads to the repository.
+below it. Where the first line names programs behind `console`, the block is skipped if one of them isn't there; `ptrace` stands for
+the right to trace a process. `dgraid` is the built program, and `tools` leads to the repository.
 """
 import os
 import shutil
@@ -11,6 +11,9 @@ import sys
 import tempfile
 
 HERE = os.path.dirname(os.path.abspath(__file__))
+sys.path.insert(0, os.path.join(HERE, "..", "histories"))
+import stops  # noqa: E402
+
 TOP = os.path.join(HERE, "..", "..")
 PAGE = os.path.join(TOP, "docs", "TOUR.md")
 PROGRAM = os.path.join(TOP, "crates", "dgraid", "out", "dgraid")
@@ -40,6 +43,10 @@ def parts_of(lines):
     yield text, None, [], []
 
 
+def is_there(need, path):
+    return stops.may_trace() if need == "ptrace" else shutil.which(need, path=path) is not None
+
+
 def prints(command, folder, path):
     environment = {**os.environ, "PATH": path, "LC_ALL": "C"}
     done = subprocess.run(["bash", "-c", command], cwd=folder, env=environment, stdout=subprocess.PIPE, stderr=subprocess.STDOUT)
@@ -60,7 +67,7 @@ def tour(program, lines, folder):
         if command is None:
             continue
         page += ["$ " + command.replace("\n", "\n> ")]
-        absent = [need for need in needs if shutil.which(need, path=path) is None]
+        absent = [need for need in needs if not is_there(need, path)]
         missing.update(absent)
         given = output if absent else prints(command, work, path)
         page += given

@@ -49,6 +49,7 @@ not_saved Known = record {
   allowed = tt;
   rise = record { faults = λ q. omega arith; calls = omega arith; writes = omega arith };
   tied = record { faults = λ q low. refl; calls = refl; writes = refl };
+  took = λ is s now gone. absurd (gone now);
 }
 
 saved_plain : (Known : Type 0) (sequence : ℕ) (new : Moment) → Happens Known plain reduced Save (Saved sequence) new → ⊥
@@ -128,6 +129,7 @@ dropped Known = record {
     lost = λ s in_use two. absurd (few_out s two);
     second = no_second;
   };
+  took = λ is. absurd (cc is);
 }
 
 -- the members aren't written to

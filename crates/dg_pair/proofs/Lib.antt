@@ -4,6 +4,7 @@ mod BoundaryLemmas
 mod CaseLemmas
 mod CopyLemmas
 mod FallLemmas
+mod KeptLemmas
 mod MadeLemmas
 mod NoteLemmas
 mod RangeLemmas

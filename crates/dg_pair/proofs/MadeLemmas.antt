@@ -21,6 +21,7 @@ use Rattle.dg_pair.specs.declared.boundaries.ReplaceAnswer.TheVariants.{Replaced
 use Rattle.dg_pair.specs.declared.boundaries.Boundary.TheVariants.{Both, Half, Fill}
 use Rattle.dg_pair.specs.Boundaries.{members_of}
 use Rattle.dg_pair.specs.Calls.{IsBlankAt, IsBlankOf, IsCallOf, IsExtendOf}
+use Rattle.dg_pair.specs.Kept.{BlanksBy}
 
 is_good : (m : MemberState) → m ≡ Good → m ≢ Out
 is_good m good out = let e = sym good ∙ out in cc
@@ -79,12 +80,11 @@ extended_or NotGood = inl refl
 extended_or Fell = inr (λ e. cc)
 
 -- a member that is made anew, where it is out and its partner serves
-pub replace_made : {S : Type 0} (rack : Ghosts S) (none : (s : S) → rack.made s [] s) (answer : ReplaceAnswer) (p : ℕ) (before now : S) → ((answer ≡ Replaced) ⊎ (answer ≡ Failed) → rack.made before (blanks p ∷ []) now)
-    → ((answer ≡ Lost) ⊎ (answer ≡ NotOut) → now ≡ before) → MadeOnly rack (IsBlankOf p) before now
-replace_made rack none Replaced p before now made quiet = only_one rack _ (blanks p) before now refl (made (inl refl))
-replace_made rack none Failed p before now made quiet = only_one rack _ (blanks p) before now refl (made (inr refl))
-replace_made rack none Lost p before now made quiet = subst (λ s. MadeOnly rack (IsBlankOf p) before s) (sym (quiet (inl refl))) (only_none rack _ none before)
-replace_made rack none NotOut p before now made quiet = subst (λ s. MadeOnly rack (IsBlankOf p) before s) (sym (quiet (inr refl))) (only_none rack _ none before)
+pub replace_made : {S : Type 0} (rack : Ghosts S) (none : (s : S) → rack.made s [] s) (answer : ReplaceAnswer) (p : ℕ) (before now : S) → BlanksBy rack p answer before now → MadeOnly rack (IsBlankOf p) before now
+replace_made rack none Replaced p before now is = only_one rack _ (blanks p) before now refl is.made
+replace_made rack none Failed p before now is = only_one rack _ (blanks p) before now refl is.made
+replace_made rack none Lost p before now is = subst (λ s. MadeOnly rack (IsBlankOf p) before s) (sym is) (only_none rack _ none before)
+replace_made rack none NotOut p before now is = subst (λ s. MadeOnly rack (IsBlankOf p) before s) (sym is) (only_none rack _ none before)
 
 blank_at : (number side : ℕ) → side < 2 → (call : RackCall) → IsBlankOf (2 * number + side) call → IsBlankAt number call
 blank_at number side small (looks q) is = is

@@ -1,4 +1,5 @@
 pub mod Boundaries
 pub mod Calls
 pub mod Cases
+pub mod Kept
 pub mod Members

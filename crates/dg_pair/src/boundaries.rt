@@ -7,6 +7,7 @@ ghost use Rattle.dg_io.specs.RackCalls.{RackCall};
 ghost use Rattle.dg_io.specs.RackWords.{MadeOnly};
 ghost use Rattle.dg_io.specs.Faults.{OnlyMember};
 ghost use Rattle.dg_pair.specs.Boundaries.{members_of, number_of, size_of, slots_of, IsWell, MembersFit, MembersStand, goods_in, servers_in, unfilled, raised, completed, IsFilling, HasNext};
+ghost use Rattle.dg_pair.specs.Kept.{BlanksBy, KeepsNothing};
 ghost use Rattle.dg_pair.specs.Calls.{BlanksPair, ExtendsPair, IsPair, KeepsPair, LeavesBoundary, LeavesPair, IsBlankAt, IsBlankOf, IsCallOf, IsExtendOf, KeepsBeside, begun, replaced, copied};
 
 use crate::changes::{extend_any, fail_any, note_any};
@@ -139,6 +140,7 @@ impl Boundary {
         requires size { 512 + slots * l ≤ size }
         ensures leaves { LeavesBoundary R.Rack (IsBlankAt number) number l slots (begun number) result rack.old rack.new }
         ensures made { R.made rack.old (RackCall.blanks (2 * number) ∷ RackCall.blanks (2 * number + 1) ∷ []) rack.new }
+        ensures keeps { KeepsNothing R.keeps rack.old rack.new }
         ensures blank { (q : ℕ) → members_of result q ≡ MemberState.Good → Told (IsZeros size) (R.bytes rack.old q) (R.bytes rack.new q) }
         ensures most { (R.counts rack.new).calls ≤ (R.counts rack.old).calls + 2 }
         ensures most_writes { (R.counts rack.new).writes ≤ (R.counts rack.old).writes + 2 }
@@ -262,6 +264,7 @@ impl Boundary {
         requires stand { MembersStand (members_of self.old) (R.stands rack.old) }
         ensures leaves { BlanksPair R.Rack (replaced result (2 * number_of self.old + side) (members_of self.old)) self.old self.new rack.old rack.new }
         ensures made { MadeOnly R.Rack (IsBlankOf (2 * number_of self.old + side)) rack.old rack.new }
+        ensures keeps { BlanksBy R.Rack (2 * number_of self.old + side) result rack.old rack.new }
         ensures lost { (result ≡ ReplaceAnswer.Lost) ↔ (is_lost (members_of self.old) (number_of self.old) ≡ true) }
         ensures not_out { (result ≡ ReplaceAnswer.NotOut) ↔ (members_of self.old (2 * number_of self.old + side) ≢ MemberState.Out) }
         ensures failed { result ≡ ReplaceAnswer.Failed

@@ -5,6 +5,7 @@ ghost use Rattle.dg_model.specs.Causes.{RoseByOne};
 ghost use Rattle.dg_io.specs.RackCalls.{RackCall};
 ghost use Rattle.dg_io.specs.RackWords.{Leaves};
 ghost use Rattle.dg_io.specs.Told.{Told, IsSame, IsZeros, Torn, FitsIn, IsHeader, OldOrNew};
+ghost use Rattle.dg_pair.specs.Kept.{BlanksMember};
 ghost use Rattle.dg_pair.specs.Members.{IsMember, GoodIs, FillIs, GotSlot, TookSlot, KeepsSlots, BlankIs, NotedIs, ExtendedIs, answer_of, fill_answer_of};
 
 use dg_io::{Failed, Rack};
@@ -125,7 +126,7 @@ impl Member<Out> {
         ensures err { IfErr result (λ m. IsMember self.number self.l self.slots m) }
         ensures stands { OnOk result (R.stands rack.new self.number ≡ true) }
         ensures blank { OnOk result (Told (IsZeros size) (R.bytes rack.old self.number) (R.bytes rack.new self.number)) }
-        ensures made { R.made rack.old (RackCall.blanks self.number ∷ []) rack.new }
+        ensures keeps { BlanksMember R.Rack self.number rack.old rack.new }
         ensures leaves { Leaves R.Rack self.number result rack.old rack.new }
         ensures writes { RoseByOne (R.counts rack.old).writes (R.counts rack.new).writes }
     {
@@ -230,7 +231,7 @@ impl Member<Good> {
         ensures is { GoodIs number l slots result }
         ensures stands { OnOk (answer_of result) (R.stands rack.new number ≡ true) }
         ensures blank { BlankIs size (R.bytes rack.old number) (R.bytes rack.new number) result }
-        ensures made { R.made rack.old (RackCall.blanks number ∷ []) rack.new }
+        ensures keeps { BlanksMember R.Rack number rack.old rack.new }
         ensures leaves { Leaves R.Rack number (answer_of result) rack.old rack.new }
         ensures writes { RoseByOne (R.counts rack.old).writes (R.counts rack.new).writes }
     {

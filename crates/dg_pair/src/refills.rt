@@ -9,6 +9,7 @@ ghost use Rattle.dg_io.specs.Faults.{OnlyMember};
 ghost use Rattle.dg_pair.specs.Members.{KeepsSlots};
 ghost use Rattle.dg_pair.specs.Boundaries.{members_of, number_of, size_of, slots_of, IsWell, unfilled, raised, completed, IsFilling, HasNext};
 ghost use Rattle.dg_pair.specs.Calls.{IsCallOf, replaced};
+ghost use Rattle.dg_pair.specs.Kept.{BlanksBy};
 ghost use Rattle.dg_pair.specs.Cases.{Fits, Stand, LeavesCase};
 
 use crate::boundaries::{Boundary, CopyAnswer, ReplaceAnswer};
@@ -28,8 +29,7 @@ pub fn replace_any<R: Rack>(
     requires size { 512 + slots_of boundary * size_of boundary ≤ size }
     requires stand { Stand boundary (R.stands rack.old) }
     ensures leaves { LeavesCase R.Rack boundary result.0 rack.old rack.new }
-    ensures made { (result.1 ≡ ReplaceAnswer.Replaced) ⊎ (result.1 ≡ ReplaceAnswer.Failed)
-        → R.made rack.old (RackCall.blanks (2 * number_of boundary + side) ∷ []) rack.new }
+    ensures keeps { BlanksBy R.Rack (2 * number_of boundary + side) result.1 rack.old rack.new }
     ensures lost { (result.1 ≡ ReplaceAnswer.Lost) ↔ (is_lost (members_of boundary) (number_of boundary) ≡ true) }
     ensures not_out { (result.1 ≡ ReplaceAnswer.NotOut) ↔ (members_of boundary (2 * number_of boundary + side) ≢ MemberState.Out) }
     ensures failed { result.1 ≡ ReplaceAnswer.Failed

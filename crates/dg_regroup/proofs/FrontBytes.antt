@@ -8,7 +8,7 @@ use Rattle.dg_io.specs.Told.{OldOrNew, Patched, Reads, Told, Torn, patch}
 use Rattle.dg_regroup.specs.FrontRacks.{front_of, shown}
 
 -- a step of the whole bytes is one of those that are shown, where these may take it
-pub told_shown : (cut : Bool) (n : ℕ) (may : List ℕ → Type 0) (step : List ℕ → List ℕ → Type 0) → ((b a : List ℕ) → may (front_of n b) → step b a → step (front_of n b) (front_of n a))
+pub told_shown : (cut : Bool) (n : Option ℕ) (may : List ℕ → Type 0) (step : List ℕ → List ℕ → Type 0) → ((b a : List ℕ) → may (front_of n b) → step b a → step (front_of n b) (front_of n a))
     → (old new : Option (List ℕ)) → IfSome (shown cut n old) may → Told step old new → Told step (shown cut n old) (shown cut n new)
 told_shown true n may step h old None can told = tt
 told_shown true n may step h None (Some a) can told = absurd told
@@ -20,19 +20,20 @@ told_shown false n may step h old new can told = told
 abbrev pub Covers : ℕ → ℕ → List ℕ → Type 0
 Covers place size all = place + size ≤ length all
 
-full : (n : ℕ) (all : List ℕ) → n ≤ length all → front_of n all ≡ take n all
+full : (n : ℕ) (all : List ℕ) → n ≤ length all → front_of (Some n) all ≡ take n all
 full n all long = let test : nat_le n (length all) ≡ true = grind (arith, nat_tests, long) in rw test refl
 
-short : (n : ℕ) (all : List ℕ) → length all < n → front_of n all ≡ []
+short : (n : ℕ) (all : List ℕ) → length all < n → front_of (Some n) all ≡ []
 short n all few = let test : nat_le n (length all) ≡ false = grind (arith, nat_tests, few) in rw test refl
 
 -- some bytes have so many, or fewer
 by_length : (n : ℕ) (all : List ℕ) → (n ≤ length all) ⊎ (length all < n)
 by_length n all = elim (cases_lt (length all) n) [ inl few ↦ inr few | inr long ↦ inl long ]
 
-pub covered : (cut : Bool) (n place size : ℕ) (bytes : Option (List ℕ)) → IfSome (shown cut n bytes) (Covers place size) → IfSome bytes (Covers place size)
+pub covered : (cut : Bool) (n : Option ℕ) (place size : ℕ) (bytes : Option (List ℕ)) → IfSome (shown cut n bytes) (Covers place size) → IfSome bytes (Covers place size)
 covered true n place size None covers = tt
-covered true n place size (Some all) covers = elim (by_length n all) [
+covered true None place size (Some all) covers = omega (arith, covers)
+covered true (Some n) place size (Some all) covers = elim (by_length n all) [
   | inl long ↦
       let h : place + size ≤ length (take n all) = subst (λ (xs : List ℕ). place + size ≤ length xs) (full n all long) covers in
       omega (arith, h, length-take n all)
@@ -54,10 +55,18 @@ rest_of_front p n all low long =
     let size : length (take p all) ≡ p = length-take-le p all (omega (arith, low, long)) in
     ap (drop p) e ∙ drop_at (take p all) (take (n - p) (drop p all)) p size
 
-pub reads_shown : (n place : ℕ) (piece before after : List ℕ) → Covers place (length piece) (front_of n before) → Reads place piece before after
-    → Reads place piece (front_of n before) (front_of n after)
-reads_shown n place piece before after covers reads = record { same = ap (front_of n) reads.same; there = elim (by_length n before) [ inl long ↦ far long | inr few ↦ near few ] } where
-  far : n ≤ length before → piece ≡ slice_range (front_of n before) place (place + length piece)
+-- nothing is read of no bytes, and nothing written
+none_read : (place : ℕ) (piece : List ℕ) → place + length piece ≤ 0 → piece ≡ slice_range [] place (place + length piece)
+none_read place piece covers =
+    no_bytes piece (omega (arith, covers)) ∙ sym (take-nil (place + length piece - place)) ∙ ap (take (place + length piece - place)) (sym (drop-nil place))
+
+none_torn : (place size : ℕ) → place + size ≤ 0 → Torn place size [] []
+none_torn place size covers = record { size = refl; front = refl; back = refl }
+
+reads_front : (n place : ℕ) (piece before after : List ℕ) → Covers place (length piece) (front_of (Some n) before) → Reads place piece before after
+    → Reads place piece (front_of (Some n) before) (front_of (Some n) after)
+reads_front n place piece before after covers reads = record { same = ap (front_of (Some n)) reads.same; there = elim (by_length n before) [ inl long ↦ far long | inr few ↦ near few ] } where
+  far : n ≤ length before → piece ≡ slice_range (front_of (Some n) before) place (place + length piece)
   far long =
       let inside : place + length piece ≤ n = (let h : place + length piece ≤ length (take n before) = subst (λ (xs : List ℕ). place + length piece ≤ length xs) (full n before long) covers in omega (arith, h, length-take n before)) in
       reads.there
@@ -65,13 +74,15 @@ reads_shown n place piece before after covers reads = record { same = ap (front_
       ∙ ap (take (place + length piece - place)) (sym (rest_of_front place n before (omega (arith, inside)) long))
       ∙ ap (λ (xs : List ℕ). slice_range xs place (place + length piece)) (sym (full n before long))
 
-  near : length before < n → piece ≡ slice_range (front_of n before) place (place + length piece)
+  near : length before < n → piece ≡ slice_range (front_of (Some n) before) place (place + length piece)
   near few =
       let h : place + length piece ≤ 0 = subst (λ (xs : List ℕ). place + length piece ≤ length xs) (short n before few) covers in
-      no_bytes piece (omega (arith, h))
-      ∙ sym (take-nil (place + length piece - place))
-      ∙ ap (take (place + length piece - place)) (sym (drop-nil place))
-      ∙ ap (λ (xs : List ℕ). slice_range xs place (place + length piece)) (sym (short n before few))
+      none_read place piece h ∙ ap (λ (xs : List ℕ). slice_range xs place (place + length piece)) (sym (short n before few))
+
+pub reads_shown : (n : Option ℕ) (place : ℕ) (piece before after : List ℕ) → Covers place (length piece) (front_of n before) → Reads place piece before after
+    → Reads place piece (front_of n before) (front_of n after)
+reads_shown None place piece before after covers reads = record { same = refl; there = none_read place piece covers }
+reads_shown (Some n) place piece before after covers reads = reads_front n place piece before after covers reads
 
 -- a patch within the first bytes
 patch_front : (n place : ℕ) (piece all : List ℕ) → place + length piece ≤ n → n ≤ length all → patch all place piece ≡ patch (take n all) place piece ++ drop n all
@@ -87,10 +98,10 @@ patch_length : (place : ℕ) (piece all : List ℕ) → place + length piece ≤
 patch_length place piece all inside =
     omega (arith, inside, length-append (take place all ++ piece) (drop (place + length piece) all), length-append (take place all) piece, length-take place all, length-drop (place + length piece) all)
 
-pub patched_shown : (n place : ℕ) (piece before after : List ℕ) → Covers place (length piece) (front_of n before) → Patched place piece before after
-    → Patched place piece (front_of n before) (front_of n after)
-patched_shown n place piece before after covers patched = elim (by_length n before) [ inl long ↦ far long | inr few ↦ near few ] where
-  far : n ≤ length before → front_of n after ≡ patch (front_of n before) place piece
+patched_front : (n place : ℕ) (piece before after : List ℕ) → Covers place (length piece) (front_of (Some n) before) → Patched place piece before after
+    → Patched place piece (front_of (Some n) before) (front_of (Some n) after)
+patched_front n place piece before after covers patched = elim (by_length n before) [ inl long ↦ far long | inr few ↦ near few ] where
+  far : n ≤ length before → front_of (Some n) after ≡ patch (front_of (Some n) before) place piece
   far long =
       let size : length (take n before) ≡ n = length-take-le n before long in
       let inside : place + length piece ≤ n = (let h : place + length piece ≤ length (take n before) = subst (λ (xs : List ℕ). place + length piece ≤ length xs) (full n before long) covers in omega (arith, h, size)) in
@@ -101,18 +112,23 @@ patched_shown n place piece before after covers patched = elim (by_length n befo
       ∙ take_at (patch (take n before) place piece) (drop n before) n whole
       ∙ ap (λ (xs : List ℕ). patch xs place piece) (sym (full n before long))
 
-  near : length before < n → front_of n after ≡ patch (front_of n before) place piece
+  near : length before < n → front_of (Some n) after ≡ patch (front_of (Some n) before) place piece
   near few =
       let h : place + length piece ≤ 0 = subst (λ (xs : List ℕ). place + length piece ≤ length xs) (short n before few) covers in
       let none : piece ≡ [] = no_bytes piece (omega (arith, h)) in
       let same : length after ≡ length before = ap length patched ∙ patch_length place piece before (omega (arith, h)) in
       short n after (omega (arith, same, few))
-      ∙ sym (no_bytes (patch (front_of n before) place piece)
-      (patch_length place piece (front_of n before) covers ∙ ap length (short n before few)))
+      ∙ sym (no_bytes (patch (front_of (Some n) before) place piece)
+      (patch_length place piece (front_of (Some n) before) covers ∙ ap length (short n before few)))
 
-pub torn_shown : (n place size : ℕ) (before after : List ℕ) → Covers place size (front_of n before) → Torn place size before after → Torn place size (front_of n before) (front_of n after)
-torn_shown n place size before after covers torn = elim (by_length n before) [ inl long ↦ far long | inr few ↦ near few ] where
-  far : n ≤ length before → Torn place size (front_of n before) (front_of n after)
+pub patched_shown : (n : Option ℕ) (place : ℕ) (piece before after : List ℕ) → Covers place (length piece) (front_of n before) → Patched place piece before after
+    → Patched place piece (front_of n before) (front_of n after)
+patched_shown None place piece before after covers patched = sym (no_bytes (patch [] place piece) (patch_length place piece [] covers))
+patched_shown (Some n) place piece before after covers patched = patched_front n place piece before after covers patched
+
+torn_front : (n place size : ℕ) (before after : List ℕ) → Covers place size (front_of (Some n) before) → Torn place size before after → Torn place size (front_of (Some n) before) (front_of (Some n) after)
+torn_front n place size before after covers torn = elim (by_length n before) [ inl long ↦ far long | inr few ↦ near few ] where
+  far : n ≤ length before → Torn place size (front_of (Some n) before) (front_of (Some n) after)
   far long =
       let inside : place + size ≤ n = (let h : place + size ≤ length (take n before) = subst (λ (xs : List ℕ). place + size ≤ length xs) (full n before long) covers in omega (arith, h, length-take n before)) in
       let long_after : n ≤ length after = omega (arith, long, torn.size) in
@@ -121,16 +137,21 @@ torn_shown n place size before after covers torn = elim (by_length n before) [ i
         front = take-take place n after (omega (arith, inside)) ∙ torn.front ∙ sym (take-take place n before (omega (arith, inside)));
         back = rest_of_front (place + size) n after inside long_after ∙ ap (take (n - (place + size))) torn.back ∙ sym (rest_of_front (place + size) n before inside long);
       } in
-      subst (λ (xs : List ℕ). Torn place size xs (front_of n after)) (sym (full n before long))
+      subst (λ (xs : List ℕ). Torn place size xs (front_of (Some n) after)) (sym (full n before long))
       (subst (λ (xs : List ℕ). Torn place size (take n before) xs) (sym (full n after long_after)) parts)
 
-  near : length before < n → Torn place size (front_of n before) (front_of n after)
+  near : length before < n → Torn place size (front_of (Some n) before) (front_of (Some n) after)
   near few =
-      let none : Torn place size [] [] = record { size = refl; front = refl; back = refl } in
-      subst (λ (xs : List ℕ). Torn place size xs (front_of n after)) (sym (short n before few))
-      (subst (λ (xs : List ℕ). Torn place size [] xs) (sym (short n after (omega (arith, few, torn.size)))) none)
+      let h : place + size ≤ 0 = subst (λ (xs : List ℕ). place + size ≤ length xs) (short n before few) covers in
+      subst (λ (xs : List ℕ). Torn place size xs (front_of (Some n) after)) (sym (short n before few))
+      (subst (λ (xs : List ℕ). Torn place size [] xs) (sym (short n after (omega (arith, few, torn.size)))) (none_torn place size h))
 
-pub old_or_new_shown : (n place : ℕ) (piece before after : List ℕ) → Covers place (length piece) (front_of n before) → OldOrNew place piece before after
+pub torn_shown : (n : Option ℕ) (place size : ℕ) (before after : List ℕ) → Covers place size (front_of n before) → Torn place size before after
+    → Torn place size (front_of n before) (front_of n after)
+torn_shown None place size before after covers torn = none_torn place size covers
+torn_shown (Some n) place size before after covers torn = torn_front n place size before after covers torn
+
+pub old_or_new_shown : (n : Option ℕ) (place : ℕ) (piece before after : List ℕ) → Covers place (length piece) (front_of n before) → OldOrNew place piece before after
     → OldOrNew place piece (front_of n before) (front_of n after)
 old_or_new_shown n place piece before after covers (inl same) = inl (ap (front_of n) same)
 old_or_new_shown n place piece before after covers (inr patched) = inr (patched_shown n place piece before after covers patched)

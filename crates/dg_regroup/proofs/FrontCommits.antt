@@ -1,5 +1,5 @@
 -- What a commit leaves of a rack of which some members show their first bytes alone.
-use Rattle.std.proofs.Common.{◌≡◌, ◌+◌, ◌⊎◌, inl, inr, ℕ, Bool, true, false, List, Option, None, Some, slice_index, refl, ap, arith}
+use Rattle.std.proofs.Common.{◌≡◌, ◌+◌, ◌&&◌, ◌⊎◌, inl, inr, ℕ, Bool, true, false, not, List, Option, None, Some, slice_index, refl, ap, arith}
 use Rattle.dg_io.specs.Commits.{IsNewKept, KeptAfter, LeavesCommit}
 use Rattle.dg_io.specs.Kept.{Kept}
 use Rattle.dg_io.specs.declared.checkpoints.CommitAnswer.{CommitAnswer}
@@ -8,13 +8,13 @@ use Rattle.dg_io.specs.declared.outside.Rack.{Ghosts}
 use Rattle.dg_model.specs.Causes.{Rose}
 use Rattle.dg_regroup.specs.FrontGhosts.{front}
 use Rattle.dg_regroup.specs.FrontLaws.{same_shown}
-use Rattle.dg_regroup.specs.FrontRacks.{front_keeps, front_room, is_front, shown}
+use Rattle.dg_regroup.specs.FrontRacks.{front_keeps, front_room, is_front, is_hidden, shown}
 use Rattle.dg_regroup.specs.declared.front_racks.FrontRack.{FrontRack}
 
 rose_sum : (before now own : ℕ) → Rose before now → Rose (before + own) (now + own)
 rose_sum before now own rose = omega (arith, rose)
 
-none_shown : (cut : Bool) (n : ℕ) (bytes : Option (List ℕ)) → bytes ≡ None → shown cut n bytes ≡ None
+none_shown : (cut : Bool) (n : Option ℕ) (bytes : Option (List ℕ)) → bytes ≡ None → shown cut n bytes ≡ None
 none_shown true n bytes is = ap (shown true n) is
 none_shown false n bytes is = is
 
@@ -76,7 +76,7 @@ module _ {R : Type 0} (rack : Ghosts R) (it : FrontRack R) (r : R) where
     cause = λ q is. rose_sum _ _ (slice_index it.refused q) (leaves.cause q is);
     only = leaves.only;
     uncalled = λ q off. ap (λ (n : ℕ). n + slice_index it.refused q) (leaves.uncalled q off);
-    stand_on = leaves.stand_on;
+    stand_on = λ q up. ap (λ (stand : Bool). not (is_hidden it q) && stand) (leaves.stand_on q up);
     kept = kept_through keep extra answer leaves.kept;
     disks_fall = leaves.disks_fall;
     room_is = leaves.room_is;

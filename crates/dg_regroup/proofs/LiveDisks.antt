@@ -1,92 +1,24 @@
 -- What a call on a disk leaves of a rack of the boundaries in use, by what it left of the rack below.
-use Rattle.std.proofs.Common.{◌≡◌, ◌≢◌, ◌+◌, ◌-◌, ◌≤◌, ◌<◌, inl, inr, ℕ, zero, suc, Bool, true, false, List, Option, None, Some, IfSome, nat_lt, ◌↔◌, filter, length, slice_index, get_or, take, if◌then◌else◌, refl, sym, ap, subst, arith}
+use Rattle.std.proofs.Common.{◌≡◌, ◌≢◌, ◌≤◌, ◌<◌, ℕ, Bool, true, false, List, Option, None, Some, IfSome, nat_lt, ◌↔◌, length, slice_index, if◌then◌else◌, refl, sym, ap, subst, arith}
 use Rattle.std.specs.List.Sorted.{IsStrictlyIncreasing}
-use Rattle.std.proofs.lemmas.Bool.{cases_Bool, cases_order, false≢true}
+use Rattle.std.proofs.lemmas.Bool.{false≢true}
 use Rattle.std.proofs.lemmas.Bool.Decides.{nat_tests}
-use Rattle.std.proofs.lemmas.List.{take_all}
-use Rattle.std.proofs.lemmas.List.Filters.{length-filter_more}
 use Rattle.dg_io.specs.DiskAnswers.{MendsDisk, OneDisk, is_group_lost}
 use Rattle.dg_io.specs.Disks.{DiskStates}
 use Rattle.dg_io.specs.declared.disks.MendAnswer.{MendAnswer}
 use Rattle.dg_io.specs.declared.disks.MendAnswer.TheVariants.{Lost, NotOut}
-use Rattle.dg_model.proofs.RegroupLaws.{rises}
 use Rattle.dg_model.specs.Causes.{Rose}
 use Rattle.dg_model.specs.Lives.{boundary_at}
-use Rattle.dg_regroup.specs.LivePlaces.{by_there, live_differs}
+use Rattle.dg_regroup.specs.LivePlaces.{by_there, few_pass, first_groups, live_differs}
 use Rattle.dg_regroup.specs.LiveRacks.{live_groups}
 use Rattle.dg_regroup.specs.declared.live_racks.LiveRack.{LiveRack}
 
--- ---- the groups are the first boundaries in use
-
-abbrev is_group : ℕ → ℕ → Bool
-is_group most s = nat_lt s most
-
-abbrev as_number : Bool → ℕ
-as_number b = if b then 1 else 0
-
-one_or_none : (b : Bool) → as_number b ≤ 1
-one_or_none true = omega arith
-one_or_none false = omega arith
-
-few_first : (most : ℕ) (live : List ℕ) (i : ℕ) → i ≤ length live → length (filter (is_group most) (take i live)) ≤ i
-few_first most live zero low = omega arith
-few_first most live (suc i) low =
-    let before = few_first most live i (omega (arith, low)) in
-    let more = length-filter_more (is_group most) live i 0 (omega (arith, low)) in
-    let one = one_or_none (is_group most (get_or live i 0)) in
-    subst (λ (n : ℕ). length (filter (is_group most) (take n live)) ≤ n) (add_one i) (omega (arith, before, more, one))
-  where
-    add_one : (n : ℕ) → n + 1 ≡ suc n
-    add_one n = omega arith
-
-zero_more : (n : ℕ) → n ≡ n + 0
-zero_more n = omega arith
-
-no_more : (most : ℕ) (live : List ℕ) (s : ℕ) → IsStrictlyIncreasing live → most ≤ slice_index live s → (k : ℕ) → s + k ≤ length live
-    → length (filter (is_group most) (take (s + k) live)) ≤ s
-no_more most live s rise high zero low =
-    subst (λ (n : ℕ). length (filter (is_group most) (take n live)) ≤ s) (zero_more s) (few_first most live s (subst (λ (n : ℕ). n ≤ length live) (sym (zero_more s)) low))
-no_more most live s rise high (suc k) low =
-    let before = no_more most live s rise high k (omega (arith, low)) in
-    let more = length-filter_more (is_group most) live (s + k) 0 (omega (arith, low)) in
-    let none = ap as_number (off k (omega (arith, low))) in
-    subst (λ (n : ℕ). length (filter (is_group most) (take n live)) ≤ s) (next s k) (omega (arith, before, more, none))
-  where
-    next : (s k : ℕ) → s + k + 1 ≡ s + suc k
-    next s k = omega arith
-
-    off : (k : ℕ) → s + k < length live → is_group most (get_or live (s + k) 0) ≡ false
-    off zero within = grind (arith, nat_tests, high)
-    off (suc k) within = let lt = rises live rise s (s + suc k) (omega arith) within in grind (arith, nat_tests, high, lt)
-
-pub first_groups : (most : ℕ) (live : List ℕ) (s : ℕ) → IsStrictlyIncreasing live → s < length (filter (λ t. nat_lt t most) live) → slice_index live s < most
-first_groups most live s rise few = elim (cases_Bool (nat_lt (slice_index live s) most)) [
-  | inl is ↦ grind (arith, nat_tests)
-  | inr none ↦
-      let high : most ≤ slice_index live s = grind (arith, nat_tests) in
-      elim (cases_order (length live) s) [
-        | inl level ↦ absurd (omega (arith, few, level, all_first (length live) refl))
-        | inr apart ↦ elim apart [
-          | inl less ↦ absurd (omega (arith, few, less, all_first (length live) refl))
-          | inr greater ↦
-              let rest : s + (length live - s) ≡ length live = omega (arith, greater) in
-              let whole = ap (λ (xs : List ℕ). length (filter (is_group most) xs)) (take_all (length live) live (omega arith)) in
-              let all = no_more most live s rise high (length live - s) (omega (arith, rest)) in
-              absurd (omega (arith, few, whole, subst (λ (n : ℕ). length (filter (is_group most) (take n live)) ≤ s) rest all))
-        ]
-      ]
-]
-  where
-    all_first : (n : ℕ) → n ≡ length live → length (filter (is_group most) live) ≤ n
-    all_first n is = subst (λ (xs : List ℕ). length (filter (is_group most) xs) ≤ n) (take_all n live (omega (arith, is))) (few_first most live n (omega (arith, is)))
-
-pub few_groups : (most : ℕ) (live : List ℕ) → length (filter (λ t. nat_lt t most) live) ≤ length live
-few_groups most live = subst (λ (xs : List ℕ). length (filter (is_group most) xs) ≤ length live) (take_all (length live) live (omega arith)) (few_first most live (length live) (omega arith))
+-- ---- groups
 
 -- a place behind the last boundary in use is excluded where the rack has disks
 pub not_in_use : {R : Type 0} (width : Option ℕ) (it : LiveRack R) (groups : R → ℕ) (s j : ℕ) → IfSome width (λ n. (s < live_groups groups it) × (j < n)) → length it.live.items ≤ s → width ≡ None
 not_in_use None it groups s j place high = refl
-not_in_use (Some n) it groups s j place high = absurd (omega (arith, place.0, high, few_groups (groups it.rack) it.live.items))
+not_in_use (Some n) it groups s j place high = absurd (omega (arith, place.0, high, few_pass (λ t. nat_lt t (groups it.rack)) it.live.items))
 
 pub none_says : (P : ℕ → Type 0) (width : Option ℕ) → width ≡ None → IfSome width P
 none_says P width is = subst (λ (w : Option ℕ). IfSome w P) (sym is) tt

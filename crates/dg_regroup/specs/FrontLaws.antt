@@ -1,7 +1,8 @@
 -- Calls of a rack of which some members show their first bytes alone leave what each of them leaves.
-use Rattle.std.proofs.Common.{◌≡◌, ◌∙◌, ℕ, Bool, true, false, List, [], ◌∷◌, ◌++◌, Option, None, Some, IsSome, inl, inr, length, refl, sym, ap, subst, arith}
+use Rattle.std.proofs.Common.{◌≡◌, ◌∙◌, ◌&&◌, ℕ, Bool, true, false, not, is_some, List, [], ◌∷◌, ◌++◌, Option, None, Some, IsSome, inl, inr, length, refl, sym, ap, subst, arith}
+use Rattle.std.proofs.lemmas.Bool.{and_parts, false≢true}
 use Rattle.dg_io.specs.Kept.{KeepsOn}
-use Rattle.dg_io.specs.MadeLaws.{each_back, each_front}
+use Rattle.dg_io.specs.MadeLaws.{each_back, each_front, same_both, same_told}
 use Rattle.dg_io.specs.Disks.{DiskStates, DisksAfter}
 use Rattle.dg_io.specs.RackCalls.{Each, IsNoBlank, IsNoBlankAt, IsNotAt, IsNotOn, RackCall}
 use Rattle.dg_io.specs.RackCalls.RackCall.{looks, blanks, calls, extends}
@@ -10,23 +11,23 @@ use Rattle.dg_io.specs.Told.{IsSame, Told}
 use Rattle.dg_io.specs.declared.outside.Rack.{Ghosts}
 use Rattle.dg_regroup.specs.FrontGhosts.{front}
 use Rattle.dg_regroup.specs.FrontMade.{AreFor, FrontMade, IsFor}
-use Rattle.dg_regroup.specs.FrontRacks.{front_keeps, front_of, is_front, shown}
+use Rattle.dg_regroup.specs.FrontRacks.{front_keeps, front_of, is_front, is_hidden, shown}
 use Rattle.dg_regroup.specs.declared.front_racks.FrontRack.{FrontRack}
 
 -- ---- what a member shows
 
-pub same_shown : (cut : Bool) (n : ℕ) (old new : Option (List ℕ)) → Told IsSame old new → Told IsSame (shown cut n old) (shown cut n new)
+pub same_shown : (cut : Bool) (n : Option ℕ) (old new : Option (List ℕ)) → Told IsSame old new → Told IsSame (shown cut n old) (shown cut n new)
 same_shown true n old None told = tt
 same_shown true n None (Some b) told = absurd told
 same_shown true n (Some a) (Some b) told = ap (front_of n) told
 same_shown false n old new told = told
 
-pub is_shown : (cut : Bool) (n : ℕ) (bytes : Option (List ℕ)) → IsSome bytes → IsSome (shown cut n bytes)
+pub is_shown : (cut : Bool) (n : Option ℕ) (bytes : Option (List ℕ)) → IsSome bytes → IsSome (shown cut n bytes)
 is_shown true n None some = some
 is_shown true n (Some all) some = refl
 is_shown false n bytes some = some
 
-pub was_shown : (cut : Bool) (n : ℕ) (bytes : Option (List ℕ)) → IsSome (shown cut n bytes) → IsSome bytes
+pub was_shown : (cut : Bool) (n : Option ℕ) (bytes : Option (List ℕ)) → IsSome (shown cut n bytes) → IsSome bytes
 was_shown true n None some = some
 was_shown true n (Some all) some = refl
 was_shown false n bytes some = some
@@ -36,9 +37,9 @@ pub front_tells_told : {R : Type 0} (bytes : R → ℕ → Option (List ℕ)) (t
 front_tells_told bytes tells law s q told = law s.rack q (was_shown (is_front s q) s.length (bytes s.rack q) told)
 
 pub front_told : {R : Type 0} (bytes : R → ℕ → Option (List ℕ)) (stands : R → ℕ → Bool) (tells : R → ℕ → Type 0)
-    → ((s : R) (q : ℕ) → tells s q → stands s q ≡ true → IsSome (bytes s q)) → (s : FrontRack R) (q : ℕ) → tells s.rack q → stands s.rack q ≡ true
+    → ((s : R) (q : ℕ) → tells s q → stands s q ≡ true → IsSome (bytes s q)) → (s : FrontRack R) (q : ℕ) → tells s.rack q → (not (is_hidden s q) && stands s.rack q) ≡ true
     → IsSome (shown (is_front s q) s.length (bytes s.rack q))
-front_told bytes stands tells law s q told stand = is_shown (is_front s q) s.length (bytes s.rack q) (law s.rack q told stand)
+front_told bytes stands tells law s q told stand = is_shown (is_front s q) s.length (bytes s.rack q) (law s.rack q told (and_parts (not (is_hidden s q)) (stands s.rack q) stand).1)
 
 -- ---- calls below
 
@@ -76,6 +77,11 @@ for_disks made below old new are after = record {
   others = λ s each. after.others s (each_for (IsNotAt s) (λ q h. h) made below are each);
 }
 
+-- one that shows its first bytes alone did so before
+still_front : (was is : Bool) → (was ≡ false → is ≡ false) → is ≡ true → was ≡ true
+still_front true is still front = refl
+still_front false is still front = absurd (false≢true (sym (still refl) ∙ front))
+
 module _ {R : Type 0} (rack : Ghosts R) where
   pub front_none : ((s : R) → rack.made s [] s) → (s : FrontRack R) → FrontMade rack s [] s
   front_none none s = record {
@@ -88,6 +94,10 @@ module _ {R : Type 0} (rack : Ghosts R) where
     rise = λ q. omega arith;
     others = λ q each. refl;
     writes = omega arith;
+    whole_refused = λ is q. refl;
+    whole_writes = λ is. refl;
+    still = λ q is. is;
+    unseen = λ is q old new. same_told (rack.bytes s.rack q);
     same_refused = λ each q. refl;
     same_writes = λ each. refl;
   }
@@ -104,6 +114,12 @@ module _ {R : Type 0} (rack : Ghosts R) where
     rise = λ q. omega (arith, first.rise q, second.rise q);
     others = λ q each. second.others q (each_back _ x y each) ∙ first.others q (each_front _ x y each);
     writes = omega (arith, first.writes, second.writes);
+    whole_refused = λ is q. second.whole_refused (first.length ∙ is) q ∙ first.whole_refused is q;
+    whole_writes = λ is. second.whole_writes (first.length ∙ is) ∙ first.whole_writes is;
+    still = λ q is. second.still q (first.still q is);
+    unseen = λ is q old new.
+        let mid : is_front b q ≡ true = still_front (is_front b q) (is_front c q) (second.still q) new in
+        same_both (rack.bytes a.rack q) (rack.bytes b.rack q) (rack.bytes c.rack q) (first.unseen is q old mid) (second.unseen (first.length ∙ is) q mid new);
     same_refused = λ each q. second.same_refused (each_back _ x y each) q ∙ first.same_refused (each_front _ x y each) q;
     same_writes = λ each. second.same_writes (each_back _ x y each) ∙ first.same_writes (each_front _ x y each);
   }
@@ -116,7 +132,7 @@ module _ {R : Type 0} (rack : Ghosts R) where
     on (Some keeps.0) keeps.1,
     record {
       entries = λ q. keeps.2.entries q
-          ∙ ap (λ (n : ℕ). shown (is_front a q) n (keeps.0.entries q)) (sym long) ∙ ap (λ (cut : Bool). shown cut b.length (keeps.0.entries q)) (sym (same q));
+          ∙ ap (λ (n : Option ℕ). shown (is_front a q) n (keeps.0.entries q)) (sym long) ∙ ap (λ (cut : Bool). shown cut b.length (keeps.0.entries q)) (sym (same q));
       extra = keeps.2.extra;
     },
   )
@@ -124,9 +140,16 @@ module _ {R : Type 0} (rack : Ghosts R) where
   pub shows_same : (a b : FrontRack R) (q : ℕ) → b.length ≡ a.length → is_front b q ≡ is_front a q → Told IsSame (rack.bytes a.rack q) (rack.bytes b.rack q)
       → Told IsSame ((front rack).bytes a q) ((front rack).bytes b q)
   shows_same a b q long same told =
-      subst (λ (n : ℕ). Told IsSame (shown (is_front a q) a.length (rack.bytes a.rack q)) (shown (is_front b q) n (rack.bytes b.rack q))) (sym long)
+      subst (λ (n : Option ℕ). Told IsSame (shown (is_front a q) a.length (rack.bytes a.rack q)) (shown (is_front b q) n (rack.bytes b.rack q))) (sym long)
       (subst (λ (cut : Bool). Told IsSame (shown (is_front a q) a.length (rack.bytes a.rack q)) (shown cut a.length (rack.bytes b.rack q))) (sym same)
       (same_shown (is_front a q) a.length (rack.bytes a.rack q) (rack.bytes b.rack q) told))
+
+  stands_same : (a b : FrontRack R) (q : ℕ) → b.length ≡ a.length → is_front b q ≡ is_front a q → rack.stands b.rack q ≡ rack.stands a.rack q
+      → (front rack).stands b q ≡ (front rack).stands a q
+  stands_same a b q long same stand =
+      ap (λ (n : Option ℕ). not (is_front b q && not (is_some n)) && rack.stands b.rack q) long
+      ∙ ap (λ (cut : Bool). not (cut && not (is_some a.length)) && rack.stands b.rack q) same
+      ∙ ap (λ (up : Bool). not (is_hidden a q) && up) stand
 
   pub front_after : ((s t : R) (made : List RackCall) → rack.made s made t → After rack made s t)
       → (a b : FrontRack R) (made : List RackCall) → FrontMade rack a made b → After (front rack) made a b
@@ -143,7 +166,7 @@ module _ {R : Type 0} (rack : Ghosts R) where
         most = omega (arith, under.most, for_count made done.passed done.are_for);
         other_bytes = λ q each. shows_same a b q done.length (done.same_front q each) (under.other_bytes q (not_on q each));
         other_faults = λ q each. (let up = under.other_faults q (not_on q each) in let own = done.others q each in omega (arith, up, own));
-        others_stand = λ q each. under.others_stand q (not_on q each);
+        others_stand = λ q each. stands_same a b q done.length (done.same_front q each) (under.others_stand q (not_on q each));
         told_before = under.told_before;
         keeps_on = λ each. keeps_shown a b done.length (done.same_fronts each) (under.keeps_on (each_for IsNoBlank (λ q h. h) made done.passed done.are_for each));
         disks_after = for_disks made done.passed (rack.disks a.rack) (rack.disks b.rack) done.are_for under.disks_after;

@@ -1,33 +1,39 @@
--- A rack of members of which some show their first bytes alone. The rules are this project's own.
-use Rattle.std.specs.Prelude.{◌≡◌, ◌+◌, nat_le, ℕ, Bool, true, false, List, [], Option, Some, None, if◌then◌else◌, length, slice_index, slice_index_or, take}
+-- A rack of members of which some show their first bytes alone, or nothing. The rules are this project's own.
+use Rattle.std.specs.Prelude.{◌≡◌, ◌+◌, ◌&&◌, nat_le, not, is_some, ℕ, Bool, true, false, List, [], Option, Some, None, if◌then◌else◌, length, slice_index, slice_index_or, take}
 use Rattle.dg_io.specs.Kept.{Kept}
 use Rattle.dg_io.specs.declared.outside.Rack.{Ghosts}
 use Rattle.dg_model.specs.States.{Counts}
 use Rattle.dg_regroup.specs.declared.front_racks.FrontRack.{FrontRack}
 
--- the first n of the bytes, or none where there are fewer
-abbrev pub front_of : ℕ → List ℕ → List ℕ
-front_of n all = if nat_le n (length all) then take n all else []
+-- the first so many of the bytes, or none where there are fewer, or where nothing is shown
+abbrev pub front_of : Option ℕ → List ℕ → List ℕ
+front_of None all = []
+front_of (Some n) all = if nat_le n (length all) then take n all else []
 
--- the bytes that a member shows: its first n alone, or all
-abbrev pub shown : Bool → ℕ → Option (List ℕ) → Option (List ℕ)
+-- the bytes that a member shows: its first ones alone, or all
+abbrev pub shown : Bool → Option ℕ → Option (List ℕ) → Option (List ℕ)
 shown true n None = None
 shown true n (Some all) = Some (front_of n all)
 shown false n bytes = bytes
 
 -- the length that is found of it
-abbrev pub seen : Bool → ℕ → Option ℕ → Option ℕ
+abbrev pub seen : Bool → Option ℕ → Option ℕ → Option ℕ
 seen true n None = None
-seen true n (Some size) = if nat_le n size then Some n else None
+seen true None (Some size) = None
+seen true (Some n) (Some size) = if nat_le n size then Some n else None
 seen false n size = size
 
--- member q shows its first bytes alone
+-- member q shows its first bytes alone, or nothing
 abbrev pub is_front : {R : Type 0} → FrontRack R → ℕ → Bool
 is_front it q = slice_index_or it.fronts q false
 
--- how many these are
-abbrev pub front_length : {R : Type 0} → FrontRack R → ℕ
+-- how many these are: none where such members show nothing
+abbrev pub front_length : {R : Type 0} → FrontRack R → Option ℕ
 front_length it = it.length
+
+-- it shows nothing
+abbrev pub is_hidden : {R : Type 0} → FrontRack R → ℕ → Bool
+is_hidden it q = is_front it q && not (is_some it.length)
 
 -- the rack below
 abbrev pub rack_behind : {R : Type 0} → FrontRack R → R
@@ -54,8 +60,9 @@ front_counts rack it = record {
   writes = (rack.counts it.rack).writes + it.writes;
 }
 
+-- a member that shows nothing doesn't stand
 abbrev pub front_stands : {R : Type 0} → Ghosts R → FrontRack R → ℕ → Bool
-front_stands rack it = rack.stands it.rack
+front_stands rack it q = not (is_hidden it q) && rack.stands it.rack q
 
 abbrev pub front_steady : {R : Type 0} → Ghosts R → FrontRack R → Type 0
 front_steady rack it = rack.steady it.rack

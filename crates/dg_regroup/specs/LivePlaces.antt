@@ -1,8 +1,9 @@
--- Members and calls by places.
-use Rattle.std.proofs.Common.{◌≡◌, ◌≢◌, inl, inr, ◌+◌, ◌*◌, ◌/◌, ◌%◌, ◌<◌, ℕ, suc, Bool, true, false, not, List, [], ◌∷◌, ◌++◌, length, slice_index, if◌then◌else◌, refl, ap, arith, filter, map, ◌∙◌, length-append}
-use Rattle.std.proofs.lemmas.List.{map-append}
+-- Members, groups and calls by places.
+use Rattle.std.proofs.Common.{◌≡◌, ◌≢◌, inl, inr, ◌+◌, ◌*◌, ◌/◌, ◌%◌, ◌≤◌, ◌<◌, ℕ, zero, suc, Bool, true, false, not, nat_lt, List, [], ◌∷◌, ◌++◌, length, slice_index, get_or, take, drop, if◌then◌else◌, refl, sym, ap, arith, filter, map, ◌∙◌, length-append}
+use Rattle.std.proofs.lemmas.List.{get_or-drop, length-drop, length-take, map-append, take-append-drop}
 use Rattle.std.proofs.lemmas.List.Elements.{filter-append}
-use Rattle.std.proofs.lemmas.Bool.{cases_order}
+use Rattle.std.proofs.lemmas.List.Filters.{length-filter_both}
+use Rattle.std.proofs.lemmas.Bool.{cases_lt, cases_order}
 use Rattle.std.proofs.lemmas.Bool.Decides.{nat_tests}
 use Rattle.std.proofs.lemmas.List.Kept.{AllPairs-from_increasing}
 use Rattle.std.specs.List.Sorted.{IsStrictlyIncreasing}
@@ -36,6 +37,44 @@ member_differs live p q rise one other differ same = elim (cases_order (p / 2) (
         omega (arith, same, lt)
   ]
 ]
+
+-- ---- the groups of the rack below are the first boundaries in use
+
+pub few_pass : (p : ℕ → Bool) (xs : List ℕ) → length (filter p xs) ≤ length xs
+few_pass p xs = omega (arith, length-filter_both p (λ x. not (p x)) (λ x. refl) xs)
+
+none_pass : (p : ℕ → Bool) (xs : List ℕ) → ((i : ℕ) → i < length xs → p (get_or xs i 0) ≡ false) → length (filter p xs) ≡ 0
+none_pass p [] none = refl
+none_pass p (x ∷ xs) none =
+    let first : p x ≡ false = none 0 (omega arith) in
+    let rest = none_pass p xs (λ i low. none (suc i) (omega (arith, low))) in
+    rw first rest
+
+pub first_groups : (most : ℕ) (live : List ℕ) (s : ℕ) → IsStrictlyIncreasing live → s < length (filter (λ t. nat_lt t most) live) → slice_index live s < most
+first_groups most live s rise few = elim (cases_lt (slice_index live s) most) [ inl is ↦ is | inr high ↦ absurd (omega (arith, few, parts, few_pass below (take s live), length-take s live, none high)) ] where
+  below : ℕ → Bool
+  below t = nat_lt t most
+
+  within : s < length live
+  within = omega (arith, few, few_pass below live)
+
+  parts : length (filter below live) ≡ length (filter below (take s live)) + length (filter below (drop s live))
+  parts =
+      ap (λ (xs : List ℕ). length (filter below xs)) (sym (take-append-drop s live))
+      ∙ ap length (filter-append below (take s live) (drop s live))
+      ∙ length-append (filter below (take s live)) (filter below (drop s live))
+
+  off : most ≤ slice_index live s → (i : ℕ) → s + i < length live → most ≤ get_or live (s + i) 0
+  off high zero low = let e : s + 0 ≡ s = omega arith in rw e high
+  off high (suc i) low = let more : slice_index live s < get_or live (s + suc i) 0 = AllPairs-from_increasing live rise s (s + suc i) 0 (omega arith) low in omega (arith, high, more)
+
+  none : most ≤ slice_index live s → length (filter below (drop s live)) ≡ 0
+  none high = none_pass below (drop s live) (λ i low.
+      let far : most ≤ get_or live (s + i) 0 = off high i (omega (arith, low, length-drop s live)) in
+      let at : get_or (drop s live) i 0 ≡ get_or live (s + i) 0 = get_or-drop s live i 0 in
+      grind (arith, nat_tests, far, at))
+
+-- ---- calls
 
 -- what holds both of one that is there and of one that isn't
 pub by_there : {A : Type 0} (P : A → A → Type 0) (there : Bool) (old new absent gone : A) → (there ≡ true → P old new) → (there ≡ false → P absent gone)

@@ -1,6 +1,7 @@
 -- Counts by places over calls that read and write, and over commits: they go with those of the rack below. Laws for the crates above.
 use Rattle.std.specs.Prelude.{◌≡◌, ◌<◌, ◌++◌, ℕ, true, List, [], refl, slice_index}
 use Rattle.std.proofs.Common.{arith, subst, sym}
+use Rattle.dg_io.specs.MadeLaws.{each_such}
 use Rattle.dg_io.specs.Makes.{Makes}
 use Rattle.dg_io.specs.MakesLaws.{makes_made}
 use Rattle.dg_io.specs.RackCalls.{IsReadOrWrite, RackCall}
@@ -10,6 +11,7 @@ use Rattle.dg_io.specs.declared.outside.Rack.{Ghosts}
 use Rattle.dg_model.specs.Lives.{member_at}
 use Rattle.dg_regroup.specs.FrontGhosts.{front}
 use Rattle.dg_regroup.specs.FrontLaws.{each_for, front_both, front_none}
+use Rattle.dg_regroup.specs.FrontMade.{IsNoExtend}
 use Rattle.dg_regroup.specs.FrontRacks.{FrontCommits, front_counts, rack_behind}
 use Rattle.dg_regroup.specs.LiveGhosts.{live}
 use Rattle.dg_regroup.specs.LiveMade.{call_below, is_passed}
@@ -33,7 +35,14 @@ pub record ReadsBehind {R : Type 0} (rack : Ghosts R) (old new : FrontRack R) : 
   pub refused : (q : ℕ) → own_refused new q ≡ own_refused old q
   pub writes : own_refused_writes new ≡ own_refused_writes old
 
--- a call that reads or writes is one by the numbers below
+-- a call that reads or writes extends no member
+pub reads_extend_none : (call : RackCall) → IsReadOrWrite call → IsNoExtend call
+reads_extend_none (looks q) is = absurd is
+reads_extend_none (blanks q) is = absurd is
+reads_extend_none (calls q) is = tt
+reads_extend_none (extends q) is = absurd is
+
+-- it is one by the numbers below
 reads_below : (numbers : List ℕ) (call : RackCall) → IsReadOrWrite call → IsReadOrWrite (call_below numbers call)
 reads_below numbers (looks q) is = is
 reads_below numbers (blanks q) is = is
@@ -44,8 +53,8 @@ module _ {R : Type 0} (rack : Ghosts R) where
   pub reads_behind : (a b : FrontRack R) → MadeOnly (front rack) IsReadOrWrite a b → ReadsBehind rack a b
   reads_behind a b only = let made = only.made in record {
     below = record { calls = made.passed; each = each_for IsReadOrWrite (λ q is. absurd is) only.calls made.passed made.are_for only.each; made = made.below };
-    refused = made.same_refused only.each;
-    writes = made.same_writes only.each;
+    refused = made.same_refused (each_such IsReadOrWrite IsNoExtend reads_extend_none only.calls only.each);
+    writes = made.same_writes (each_such IsReadOrWrite IsNoExtend reads_extend_none only.calls only.each);
   }
 
   -- a member's count rose only where that behind did

@@ -3,13 +3,17 @@ use dg_io::{Checkpoint, CommitAnswer, Disks, DropAnswer, Failed, MendAnswer, Rac
 
 const MEMBERS: usize = 256;
 
+/// Members of which each has a mark.
+const HIDDEN: usize = 32;
+
 /// A rack over a rack, some of whose members show their first bytes alone, as many as were told: all that are longer are taken to
-/// be just so long, and those that are shorter have no bytes and aren't found. A member that is made anew shows all its bytes.
+/// be just so long, and those that are shorter have no bytes and aren't found; or they show nothing, and aren't found. A member that is
+/// made anew shows all its bytes.
 #[derive(Drop)]
 pub struct FrontRack<R> {
     rack: R,
-    /// How many bytes are shown.
-    length: u64,
+    /// How many bytes are shown. `None` where such members show nothing.
+    length: Option<u64>,
     /// Which members show so many alone.
     fronts: [bool; MEMBERS],
     /// How often each member was to be made longer, and wasn't.
@@ -19,19 +23,19 @@ pub struct FrontRack<R> {
 }
 
 impl<R> FrontRack<R> {
-    ghost use Rattle.std.specs.Prelude.{◌≡◌, ◌<◌, ℕ, true, false};
+    ghost use Rattle.std.specs.Prelude.{◌≡◌, ◌<◌, ℕ, true, false, None, Some, slice_index_or};
     ghost use Rattle.dg_regroup.specs.FrontRacks.{front_length, HasNoneRefused, is_front, rack_behind, seen};
 
     /// Each member shows its first bytes alone, so many.
     pub fn new(rack: R, length: u64) -> FrontRack<R>
         ensures rack { rack_behind result ≡ rack }
-        ensures length { front_length result ≡ length }
+        ensures length { front_length result ≡ Some length }
         ensures fronts { (q : ℕ) → q < 256 → is_front result q ≡ true }
         ensures none { HasNoneRefused result }
     {
         FrontRack {
             rack,
-            length,
+            length: Some(length),
             fronts: [true; MEMBERS],
             refused: [0; MEMBERS],
             writes: 0,
@@ -41,13 +45,32 @@ impl<R> FrontRack<R> {
     /// Each member shows all its bytes.
     pub fn whole(rack: R) -> FrontRack<R>
         ensures rack { rack_behind result ≡ rack }
+        ensures length { front_length result ≡ None }
         ensures fronts { (q : ℕ) → is_front result q ≡ false }
         ensures none { HasNoneRefused result }
     {
         FrontRack {
             rack,
-            length: 0,
+            length: None,
             fronts: [false; MEMBERS],
+            refused: [0; MEMBERS],
+            writes: 0,
+        }
+    }
+
+    /// Each member with a mark shows nothing, and any other one all its bytes.
+    pub fn hiding(rack: R, hidden: &[bool; HIDDEN]) -> FrontRack<R>
+        ensures rack { rack_behind result ≡ rack }
+        ensures length { front_length result ≡ None }
+        ensures fronts { (q : ℕ) → is_front result q ≡ slice_index_or hidden.now q false }
+        ensures none { HasNoneRefused result }
+    {
+        let mut fronts = [false; MEMBERS];
+        fronts[..HIDDEN].copy_from_slice(hidden);
+        FrontRack {
+            rack,
+            length: None,
+            fronts,
             refused: [0; MEMBERS],
             writes: 0,
         }
@@ -65,31 +88,31 @@ impl<R> FrontRack<R> {
     fn seen(&self, member: u8, found: Option<u64>) -> Option<u64>
         ensures { result ≡ seen (is_front self.now member) (front_length self.now) found }
     {
-        match found {
-            Some(length) if self.fronts[member as usize] => if length >= self.length {
-                Some(self.length)
-            } else {
-                None
-            },
-            _ => found,
+        if !self.fronts[member as usize] {
+            return found;
+        }
+        match (self.length, found) {
+            (Some(most), Some(length)) if length >= most => Some(most),
+            _ => None,
         }
     }
 }
 
 impl<R: Rack> FrontRack<R> {
-    ghost use Rattle.std.specs.Prelude.{◌≡◌, ◌∷◌, [], true, IsErr};
+    ghost use Rattle.std.specs.Prelude.{◌≡◌, ◌∷◌, [], true, IsErr, IsSome};
     ghost use Rattle.dg_io.specs.RackCalls.{RackCall};
     ghost use Rattle.dg_model.specs.Causes.{RoseByOne};
     ghost use Rattle.dg_io.specs.RackWords.{Leaves};
     ghost use Rattle.dg_io.specs.Told.{IsSame, Told};
     ghost use Rattle.dg_regroup.specs.FrontGhosts.{front};
     ghost use Rattle.dg_regroup.specs.FrontMade.{FrontMade};
-    ghost use Rattle.dg_regroup.specs.FrontRacks.{front_bytes, front_counts, rack_behind};
+    ghost use Rattle.dg_regroup.specs.FrontRacks.{front_bytes, front_counts, front_length, rack_behind};
 
     /// A member that shows its first bytes alone isn't made longer: what stands behind them is not all zeros. So that the rack below
     /// gets a call for this one too, no bytes of the member are read.
     fn refuse(&mut self, member: u8) -> Result<(), Failed>
         requires stands { R.stands (rack_behind self.old) member ≡ true }
+        requires some { IsSome (front_length self.old) }
         ensures err { IsErr result }
         ensures same { Told IsSame (front_bytes R.Rack self.old member) (front_bytes R.Rack self.new member) }
         ensures leaves { Leaves (front R.Rack) member result self.old self.new }

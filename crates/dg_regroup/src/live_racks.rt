@@ -61,7 +61,7 @@ impl<R> LiveRack<R> {
         requires ascend { IsStrictlyIncreasing live.items }
         requires few { All (λ s. s < 16) live.items }
         ensures rack { rack_behind (rack_in result) ≡ rack }
-        ensures length { front_length (rack_in result) ≡ length }
+        ensures length { front_length (rack_in result) ≡ Some length }
         ensures fronts { (q : ℕ) → q < 256 → is_front (rack_in result) q ≡ true }
         ensures refused { HasNoneRefused (rack_in result) }
         ensures live { live_in result ≡ live.items }

@@ -1,4 +1,4 @@
-// Members that are longer than the array on them says. All values are worked out by hand.
+// Members that are longer than the array on them says, or are hidden. All values are worked out by hand.
 use dg_io::{Failed, MemRack, Rack};
 use dg_regroup::{FrontRack, LiveRack, read_extra};
 use std::alloc::Global;
@@ -62,5 +62,33 @@ fn the_first_bytes_are_read_and_never_made_more(rt: HostRuntime) -> Result<(), F
     assert_eq!(rt; lengthen(&rt, &mut rack, 0, 6), Err(Failed));
     assert!(rt; first_bytes(&rt, &mut rack, 0) == *b"\0\0ab");
     assert_eq!(rt; rack.attach(0), Ok(Some(4)));
+    Ok(())
+}
+
+/// Members 0, 1 and 5 have as many bytes, and the first two are hidden.
+fn hiding_two(rt: &impl Abort, alloc: Global) -> Result<FrontRack<MemRack>, Fail> {
+    let mut rack = MemRack::new(alloc, 8, 64, Vec::new(alloc))?;
+    assert!(rt; rack.blank(0, 4).is_ok());
+    assert!(rt; rack.blank(1, 4).is_ok());
+    assert!(rt; rack.blank(5, 4).is_ok());
+    let mut hidden = [false; 32];
+    hidden[0] = true;
+    hidden[1] = true;
+    Ok(FrontRack::hiding(rack, &hidden))
+}
+
+#[test]
+fn hidden_members_are_not_found_until_they_are_made_anew(rt: HostRuntime) -> Result<(), Fail> {
+    let mut rack = hiding_two(&rt, rt.alloc())?;
+    assert_eq!(rt; rack.attach(0), Ok(None));
+    assert_eq!(rt; rack.attach(1), Ok(None));
+    assert_eq!(rt; rack.attach(5), Ok(Some(4)));
+    assert_eq!(rt; rack.blank(1, 10), Ok(()));
+    assert_eq!(rt; rack.attach(1), Ok(Some(10)));
+    assert_eq!(rt; lengthen(&rt, &mut rack, 1, 12), Ok(()));
+    assert_eq!(rt; rack.attach(1), Ok(Some(12)));
+    // the rack below has what is hidden
+    assert_eq!(rt; rack.attach(0), Ok(None));
+    assert_eq!(rt; rack.into_rack().attach(0), Ok(Some(4)));
     Ok(())
 }

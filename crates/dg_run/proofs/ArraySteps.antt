@@ -1,5 +1,5 @@
 -- An array makes a step where its volume does.
-use Rattle.std.proofs.Common.{◌≡◌, ◌⊎◌, ◌∙◌, ℕ, List, ap, inl, inr, length, refl, sym, subst}
+use Rattle.std.proofs.Common.{◌≡◌, ◌⊎◌, ◌∙◌, ℕ, List, ap, inl, inr, refl, sym, subst}
 use Rattle.std.specs.Prelude.{Option, Some, None}
 use Rattle.dg_io.specs.declared.outside.Rack.{Ghosts}
 use Rattle.dg_model.proofs.StepLaws.{StaysInUse, step_keeps}
@@ -109,7 +109,7 @@ module _ {R : Type 0} (rack : Ghosts R) where
 
   -- what it leaves
   pub kept_by : (room : R → Option ℕ) (commits : R → R → Type 0) (a b : Array R) (answer : CheckpointAnswer) → IsSound rack a
-      → KeepsBy any_phase rack room commits a.volume b.volume answer → GoesSaved rack a b ⊎ KeepsSaved any_phase rack room commits a.volume b.volume
+      → KeepsBy any_phase rack room commits a.hot a.volume b.volume answer → GoesSaved rack a b ⊎ KeepsSaved any_phase rack room commits a.hot a.volume b.volume
   kept_by room commits a b (KeepsSave q) sound kept = inr kept.0
   kept_by room commits a b (LosesSave s) sound (inl leaves) = inl leaves
   kept_by room commits a b (LosesSave s) sound (inr kept) = inr kept.0

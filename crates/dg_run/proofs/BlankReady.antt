@@ -1,6 +1,6 @@
 -- A blank array of the boundaries in use.
 use Rattle.std.proofs.Common.{◌≡◌, ◌∙◌, ◌+◌, ◌*◌, ◌/◌, ◌%◌, ◌<◌, ◌≤◌, ℕ, true, List, ◌++◌, ap, arith, inl, length, slice_index, subst, sym}
-use Rattle.std.specs.Prelude.{[], All, IsSome}
+use Rattle.std.specs.Prelude.{[], All}
 use Rattle.std.proofs.lemmas.List.Elements.{All-from_get_or}
 use Rattle.std.proofs.lemmas.List.FromFn.{get_or-range_with_len, length-range_with_len}
 use Rattle.dg_io.specs.Makes.{Makes}
@@ -14,24 +14,19 @@ use Rattle.dg_model.specs.States.{State}
 use Rattle.dg_model.specs.declared.shapes.Shape.{Shape}
 use Rattle.dg_regroup.specs.LiveRacks.{HasNoneAbsent, is_there, live_in, rack_in}
 use Rattle.dg_regroup.specs.declared.live_racks.LiveRack.{LiveRack}
+use Rattle.dg_run.proofs.BaseTies.{base_after, base_both, base_none}
+use Rattle.dg_run.proofs.Checkpoints.{nothing_at}
 use Rattle.dg_run.proofs.Continuing.{begins_on}
-use Rattle.dg_run.proofs.Happening.{tied_in}
+use Rattle.dg_run.proofs.Happening.{counts_in}
 use Rattle.dg_run.proofs.Segments.{Begins, Segment, of_replacements, segment, there_by}
-use Rattle.dg_run.specs.Histories.{IsBlankReady, IsReady, Running, below_of, boundaries_of, live_of, running}
+use Rattle.dg_run.specs.Bases.{Base, base, base_counts}
+use Rattle.dg_run.specs.Histories.{IsBlankReady, IsReady, Running, boundaries_of, live_of, running}
 use Rattle.dg_run.specs.Steps.{IsBlankArray, rack_of}
-use Rattle.dg_stop.specs.StopCalls.{behind}
-use Rattle.dg_stop.specs.StopLaws.{stop_after, stop_both, stop_none}
-use Rattle.dg_stop.specs.StopRacks.{stop_bytes, stop_counts, stop_words}
-use Rattle.dg_stop.specs.declared.stop_racks.StopRack.{StopRack}
 use Rattle.dg_store.specs.Leaves.{IsCallOrBlankBelow}
-
--- the rack that comes back in the end is the one behind that below
-pub behind_below : {R : Type 0} {x : R} {w : StopRack R} {y z : LiveRack (StopRack R)} → x ≡ behind w → w ≡ rack_in y → y ≡ z → x ≡ behind (rack_in z)
-behind_below first second third = first ∙ ap (λ it. behind it) (second ∙ ap (λ it. rack_in it) third)
 
 module _ {R : Type 0} (rack : Ghosts R) (none : (s : R) → rack.made s [] s) (both : (a b c : R) (x y : List RackCall) → rack.made a x b → rack.made b y c → rack.made a (x ++ y) c)
     (law : (a b : R) (made : List RackCall) → rack.made a made b → After rack made a b) where
-  module _ (shape : Shape) (before : StopRack R) (start : LiveRack (StopRack R)) (array : Running R) (well : IsShape shape) (from : rack_in start ≡ before) (all : live_in start ≡ all_live 16)
+  module _ (shape : Shape) (start : LiveRack (Base R)) (array : Running R) (well : IsShape shape) (all : live_in start ≡ all_live 16)
       (absent : HasNoneAbsent start) (blank : IsBlankArray (running rack) shape start array) where
     few : shape.b ≤ 16
     few = well.most_boundaries
@@ -50,8 +45,8 @@ module _ {R : Type 0} (rack : Ghosts R) (none : (s : R) → rack.made s [] s) (b
         let less : i < shape.b = omega (arith, low, length-range_with_len 0 shape.b) in
         omega (arith, get_or-range_with_len 0 shape.b i 0 less, less))
 
-    part : Segment (stop_words rack) IsCallOrBlankBelow shape.b start (rack_of array)
-    part = segment (stop_words rack) (stop_none rack none) (stop_both rack both) (stop_after rack law) IsCallOrBlankBelow of_replacements (all_live shape.b) shape.b start (rack_of array) begins within
+    part : Segment (base rack) IsCallOrBlankBelow shape.b start (rack_of array)
+    part = segment (base rack) (base_none rack none) (base_both rack both) (base_after rack law) IsCallOrBlankBelow of_replacements (all_live shape.b) shape.b start (rack_of array) begins within
         (subst (λ (n : ℕ). Makes (running rack) (IsCallOrBlankBelow n) start (rack_of array)) (sym (length-range_with_len 0 shape.b)) blank.own.made) blank.tells
 
     live_same : live_of array ≡ all_live shape.b
@@ -67,40 +62,38 @@ module _ {R : Type 0} (rack : Ghosts R) (none : (s : R) → rack.made s [] s) (b
           sound = blank.sound;
           longer = on.longer;
           places = on.places;
-          whole = inl (part.live_is ∙ all);
-          calls = part.calls ∙ absent.calls;
-          writes = part.writes ∙ absent.writes;
         }
 
-    counts_at : (q : ℕ) → q / 2 < shape.b → ((running rack).counts start).faults q ≡ (stop_counts rack before).faults (member_at (all_live shape.b) q)
+    counts_at : (q : ℕ) → q / 2 < shape.b → ((running rack).counts start).faults q ≡ (base_counts rack (rack_in start)).faults (member_at (all_live shape.b) q)
     counts_at q less =
         let there : is_there (live_in start) q ≡ true = there_by (live_in start) q (omega (arith, begins.longer, less, length-range_with_len 0 shape.b)) in
         let number : member_at (live_in start) q ≡ member_at (all_live shape.b) q = ap (λ (n : ℕ). 2 * n + q % 2) (begins.places (q / 2) (omega (arith, less, length-range_with_len 0 shape.b))) in
-        rw there (ap (λ (n : ℕ). (stop_counts rack (rack_in start)).faults n) number ∙ ap (λ (r : StopRack R). (stop_counts rack r).faults (member_at (all_live shape.b) q)) from)
+        rw there (ap (λ (n : ℕ). (base_counts rack (rack_in start)).faults n) number)
 
-    begun : AreCountsOf (all_live shape.b) (stop_counts rack before) ((running rack).counts start)
+    begun : AreCountsOf (all_live shape.b) (base_counts rack (rack_in start)) ((running rack).counts start)
     begun = record {
       faults = λ q low.
           let less : q / 2 < shape.b = omega (arith, low, length-range_with_len 0 shape.b) in
           counts_at q less;
-      calls = (let none_made = absent.calls in let h : ((running rack).counts start).calls ≡ (stop_counts rack (rack_in start)).calls = omega (arith, none_made) in h) ∙ ap (λ (r : StopRack R). (stop_counts rack r).calls) from;
-      writes = (let none_made = absent.writes in let h : ((running rack).counts start).writes ≡ (stop_counts rack (rack_in start)).writes = omega (arith, none_made) in h) ∙ ap (λ (r : StopRack R). (stop_counts rack r).writes) from;
+      calls = let none_made = absent.calls in omega (arith, none_made);
+      writes = let none_made = absent.writes in omega (arith, none_made);
     }
 
-    made_before : Makes (stop_words rack) (IsCallOrBlankBelow shape.b) before (below_of array)
-    made_before = subst (λ (r : StopRack R). Makes (stop_words rack) (IsCallOrBlankBelow shape.b) r (below_of array)) from part.made
-
-    pub blank_ready : IsBlankReady rack shape before array
+    pub blank_ready : IsBlankReady rack shape (rack_in start) array
     blank_ready = record {
       ready = ready;
+      whole = inl (part.live_is ∙ all);
       shape_is = blank.shape_is;
       boundaries = line_same;
-      made = made_before;
-      tells = λ q told. subst (λ (r : StopRack R). IsSome (stop_bytes rack r q)) from (part.tells q told);
+      made = part.made;
+      tells = part.tells;
       state = blank.state;
       first = (running rack).counts start;
       is_blank = blank.blank;
       begun = begun;
-      tied = tied_in rack none both law array blank.state ready blank.stands.volume;
+      tied = counts_in rack none both law array blank.state ready (part.calls ∙ absent.calls) (part.writes ∙ absent.writes) blank.stands.volume;
       stands = blank.stands;
+      nothing_on = λ kept none keeps.
+          let next = blank.nothing kept none (kept, keeps, nothing_at (live_in start) kept none) in
+          (next.2.0, next.2.2.nothing next.1, next.2.1);
     }

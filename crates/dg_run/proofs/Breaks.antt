@@ -9,7 +9,7 @@ use Rattle.dg_io.specs.declared.outside.Rack.{Ghosts}
 use Rattle.dg_io.specs.Told.{Told, Took, TookPart}
 use Rattle.dg_model.specs.declared.shapes.Shape.{Shape}
 use Rattle.dg_model.specs.declared.events.Event.{Event}
-use Rattle.dg_stop.specs.StopRacks.{stop_words}
+use Rattle.dg_run.specs.Bases.{base}
 use Rattle.dg_run.specs.Histories.{EventDone, EventListed, EventWanted, TellsLine, boundaries_of, Running}
 use Rattle.dg_text.specs.Lines.{line_of, input_of, longest, IsInPlace}
 use Rattle.dg_text.specs.Replies.{output_of, reply_line}
@@ -75,7 +75,7 @@ module _ {R : Type 0} (rack : Ghosts R) where
       (subst (λ (s : Running R). LinesBrokeOff rack [] shape first x z t u a s) (sym kept) (broke_off shape first from passed number x y z t u a b budget was told))
 
   pub lines_cut : (shape : Shape) (first from passed number : ℕ) (x y z t u v : Option (List ℕ)) (a b c : Running R) → passed ≤ 2 ^ 40 → SoFar rack shape first from passed number x y t u a b
-      → ServedLinePart rack shape (2 ^ 40 - passed) y z u v b c → (TellsLine (stop_words rack) c → TellsLine (stop_words rack) b) → LinesCut rack [] shape first x z t v a c
+      → ServedLinePart rack shape (2 ^ 40 - passed) y z u v b c → (TellsLine (base rack) c → TellsLine (base rack) b) → LinesCut rack [] shape first x z t v a c
   lines_cut shape first from passed number x y z t u v a b c budget was line told =
       let es = was.events in
       let e = line.event in
@@ -96,7 +96,7 @@ module _ {R : Type 0} (rack : Ghosts R) where
       }
 
   lines_ran_out : (shape : Shape) (first from passed number : ℕ) (x y z t u v : Option (List ℕ)) (a b c : Running R) → passed ≤ 2 ^ 40 → SoFar rack shape first from passed number x y t u a b
-      → Told (AwaitsLine (longest (Some shape)) (2 ^ 40 - passed)) y z → v ≡ u → boundaries_of c ≡ boundaries_of b → (TellsLine (stop_words rack) c → TellsLine (stop_words rack) b)
+      → Told (AwaitsLine (longest (Some shape)) (2 ^ 40 - passed)) y z → v ≡ u → boundaries_of c ≡ boundaries_of b → (TellsLine (base rack) c → TellsLine (base rack) b)
       → LinesWanted rack [] shape first x z t v a c
   lines_ran_out shape first from passed number x y z t u v a b c budget was told kept same tells = record {
     events = was.events;
@@ -111,7 +111,7 @@ module _ {R : Type 0} (rack : Ghosts R) where
 
   -- the reply of the last line was written whole
   ran_out_behind_reply : (shape : Shape) (first from passed number : ℕ) (x y z t u v : Option (List ℕ)) (a b c : Running R) → passed ≤ 2 ^ 40 → SoFar rack shape first from passed number x y t u a b
-      → (line : WantedLine rack shape (2 ^ 40 - passed) y z u v b c) → EventDone rack line.event u v b c → (TellsLine (stop_words rack) c → TellsLine (stop_words rack) b)
+      → (line : WantedLine rack shape (2 ^ 40 - passed) y z u v b c) → EventDone rack line.event u v b c → (TellsLine (base rack) c → TellsLine (base rack) b)
       → LinesDone rack [] shape first x z t v a c
   ran_out_behind_reply shape first from passed number x y z t u v a b c budget was line answered told =
       let es = was.events in
@@ -133,7 +133,7 @@ module _ {R : Type 0} (rack : Ghosts R) where
 
   -- of the listing that the last line asks for the first lines were written
   ran_out_in_listing : (shape : Shape) (first from passed number : ℕ) (x y z t u v : Option (List ℕ)) (a b c : Running R) → passed ≤ 2 ^ 40 → SoFar rack shape first from passed number x y t u a b
-      → (line : WantedLine rack shape (2 ^ 40 - passed) y z u v b c) → EventListed rack line.event u v b c → (TellsLine (stop_words rack) c → TellsLine (stop_words rack) b)
+      → (line : WantedLine rack shape (2 ^ 40 - passed) y z u v b c) → EventListed rack line.event u v b c → (TellsLine (base rack) c → TellsLine (base rack) b)
       → LinesListed rack [] shape first x z t v a c
   ran_out_in_listing shape first from passed number x y z t u v a b c budget was line listed told =
       let es = was.events in
@@ -157,14 +157,14 @@ module _ {R : Type 0} (rack : Ghosts R) where
 
   ran_out_by : (shape : Shape) (first from passed number : ℕ) (x y z t u v : Option (List ℕ)) (a b c : Running R) → passed ≤ 2 ^ 40 → SoFar rack shape first from passed number x y t u a b
       → (line : WantedLine rack shape (2 ^ 40 - passed) y z u v b c) → EventDone rack line.event u v b c ⊎ EventListed rack line.event u v b c
-      → (TellsLine (stop_words rack) c → TellsLine (stop_words rack) b) → LinesRanOut rack [] shape first x z t v a c
+      → (TellsLine (base rack) c → TellsLine (base rack) b) → LinesRanOut rack [] shape first x z t v a c
   ran_out_by shape first from passed number x y z t u v a b c budget was line (inl answered) told =
       inr (inl (ran_out_behind_reply shape first from passed number x y z t u v a b c budget was line answered told))
   ran_out_by shape first from passed number x y z t u v a b c budget was line (inr listed) told =
       inr (inr (ran_out_in_listing shape first from passed number x y z t u v a b c budget was line listed told))
 
   pub lines_ran_out_at : (shape : Shape) (first from passed number : ℕ) (x y z t u v : Option (List ℕ)) (a b c : Running R) → passed ≤ 2 ^ 40 → SoFar rack shape first from passed number x y t u a b
-      → RanOutAt rack shape (2 ^ 40 - passed) y z u v b c → boundaries_of c ≡ boundaries_of b → (TellsLine (stop_words rack) c → TellsLine (stop_words rack) b) → LinesRanOut rack [] shape first x z t v a c
+      → RanOutAt rack shape (2 ^ 40 - passed) y z u v b c → boundaries_of c ≡ boundaries_of b → (TellsLine (base rack) c → TellsLine (base rack) b) → LinesRanOut rack [] shape first x z t v a c
   lines_ran_out_at shape first from passed number x y z t u v a b c budget was (inl none) same told =
       inl (lines_ran_out shape first from passed number x y z t u v a b c budget was none.0 none.1 same told)
   lines_ran_out_at shape first from passed number x y z t u v a b c budget was (inr line) same told =

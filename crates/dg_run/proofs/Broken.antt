@@ -1,5 +1,5 @@
 -- A whole replay that breaks off: by a fault of the source, by a fault of the sink, or for want of memory.
-use Rattle.std.proofs.Common.{◌≡◌, ◌≤◌, ◌<◌, ◌+◌, ◌-◌, ◌/◌, ◌^◌, ℕ, List, [], ◌∷◌, ◌++◌, length, take, refl, sym, ◌∙◌, ap, subst, arith, append_assoc, inl, inr, length-append}
+use Rattle.std.proofs.Common.{◌≡◌, ◌≤◌, ◌+◌, ◌-◌, ◌^◌, ℕ, List, [], ◌∷◌, ◌++◌, length, take, refl, sym, ◌∙◌, ap, subst, arith, append_assoc, inl, inr, length-append}
 use Rattle.std.specs.Prelude.{Option, Some, None, All, Result, Ok, Err, OnErr}
 use Rattle.std.specs.Option.{option_map}
 use Rattle.std.proofs.lemmas.List.{append-nil}
@@ -8,14 +8,11 @@ use Rattle.dg_io.specs.declared.outside.Rack.{Ghosts}
 use Rattle.dg_io.specs.RackCalls.{RackCall}
 use Rattle.dg_io.specs.RackWords.{After}
 use Rattle.dg_model.specs.Moments.{HistoryOf, Moment}
-use Rattle.dg_model.specs.Shapes.{IsShape}
 use Rattle.dg_model.specs.States.{Counts}
 use Rattle.dg_model.specs.declared.shapes.Shape.{Shape}
 use Rattle.dg_model.specs.declared.events.Event.{Event}
-use Rattle.dg_model.specs.declared.events.Event.TheVariants.{Array as MakeArray}
 use Rattle.dg_model.specs.declared.replies.Reply.{Reply}
 use Rattle.dg_model.specs.declared.replies.Reply.TheVariants.{Done}
-use Rattle.dg_run.specs.declared.arrays.Array.{Array}
 use Rattle.dg_text.specs.Lines.{AreInPlace, line_of, input_of, longest, IsInPlace}
 use Rattle.dg_text.specs.Replies.{output_of, refusal, reply_line}
 use Rattle.dg_run.specs.Arrays.{AnsweredToPart, ArrayCut, ArrayRanOut}
@@ -23,14 +20,12 @@ use Rattle.dg_run.specs.Endings.{GaveLines, LinesBrokeOff, LinesCut, LinesDone, 
 use Rattle.dg_run.specs.Events.{Begins}
 use Rattle.dg_run.specs.Inputs.{AwaitsLine, BeginsWithLine}
 use Rattle.dg_run.specs.Replays.{BrokeOff, BrokeOffBy, CutRefusalBy, CutReplyBy, IsCutBy, RanOut, RanOutBefore, RanOutBehind, RanOutWithin, StopsAt, TellsBoundaries, WantsFirst, shape_after}
-use Rattle.dg_run.specs.Histories.{Continues, IsBlankReady, Running, RunsBefore, VolumeRunsTo, below_of}
-use Rattle.dg_stop.specs.StopCalls.{behind}
-use Rattle.dg_stop.specs.declared.stop_racks.StopRack.TheVariants.{Plain}
+use Rattle.dg_run.specs.Histories.{Running, RunsBefore, VolumeRunsTo}
 use Rattle.dg_run.specs.Steps.{shape_of}
 use Rattle.dg_run.proofs.Happening.{weaker_runs}
 use Rattle.dg_run.proofs.Runs.{no_runs}
 use Rattle.dg_run.proofs.ToldSteps.{Told-each, Told-refl, Told-then}
-use Rattle.dg_run.proofs.Whole.{Meant, all_in_place, cut_input, led_of, ran_nothing, rest_told, stops_text, took_first}
+use Rattle.dg_run.proofs.Whole.{Meant, cut_input, ran_nothing, rest_told, stops_text, took_first}
 
 any_starts : (left rest : Option (List ℕ)) → Told AreAny left rest → Told (StartsWith []) left rest
 any_starts left rest told = Told-each AreAny (StartsWith []) (λ p q any. record { more = p; split = refl }) left rest told
@@ -58,7 +53,7 @@ took_again out text x y told = subst (λ (l : List ℕ). Told (Took l) x y) (sym
 -- memory was wanting for the first line
 pub ran_out_next : (before : Counts) (tells : ℕ → Type 0) (x z t v : Option (List ℕ)) → Told (AwaitsLine (longest None) (2 ^ 40)) x z → v ≡ t → RanOut before tells x z t v
 ran_out_next before tells x z t v told same =
-    let none = ran_nothing before (λ q. None) tells in
+    let none = ran_nothing before (λ q. None) (Unit {0}) tells in
     inr (inl (record {
       events = [];
       replies = [];
@@ -74,11 +69,11 @@ pub ran_out_first : (before : Counts) (tells : ℕ → Type 0) (x z t v : Option
 ran_out_first before tells x z t v (inl left, same) = inl (left, same)
 ran_out_first before tells x z t v (inr told, same) = ran_out_next before tells x z t v told same
 
-pub broke_off_first : (now : Counts) (bytes : ℕ → Option (List ℕ)) (tells : ℕ → Type 0) (x z t v : Option (List ℕ)) → Told (GaveLines []) x z → v ≡ t → BrokeOff now now bytes bytes tells x z t v
-broke_off_first now bytes tells x z t v told same = record {
+pub broke_off_first : (now : Counts) (bytes : ℕ → Option (List ℕ)) (steady : Type 0) (tells : ℕ → Type 0) (x z t v : Option (List ℕ)) → Told (GaveLines []) x z → v ≡ t → BrokeOff now now bytes bytes steady tells x z t v
+broke_off_first now bytes steady tells x z t v told same = record {
   events = [];
   replies = [];
-  ran = ran_nothing now bytes tells;
+  ran = ran_nothing now bytes steady tells;
   input = told;
   output = subst (λ (o : Option (List ℕ)). Told (Took []) t o) (sym same) (Told-refl (Took []) (λ b. sym (append-nil b)) t);
 }
@@ -241,17 +236,6 @@ module _ {R : Type 0} (ghosts : Ghosts R) (none : (s : R) → ghosts.made s [] s
     array_ran_out text left rest taken given line whole (inr (inl lines)) = inr (inl (lines_wanted text left rest taken given line lines))
     array_ran_out text left rest taken given line whole (inr (inr (inl lines))) = inr (inr (inl (lines_done text left rest taken given line lines)))
     array_ran_out text left rest taken given line whole (inr (inr (inr lines))) = inr (inr (inr (lines_listed text left rest taken given line lines)))
-
--- an array of mirrored pairs
-module _ {R : Type 0} (ghosts : Ghosts R) (none : (s : R) → ghosts.made s [] s)
-    (both : (a b c : R) (x y : List RackCall) → ghosts.made a x b → ghosts.made b y c → ghosts.made a (x ++ y) c) (law : (a b : R) (made : List RackCall) → ghosts.made a made b → After ghosts made a b)
-    (shape : Shape) (first : ℕ) (rack : R) (a b : Running R) (is : first ≡ length (line_of (MakeArray shape))) (well : IsShape shape)
-    (blank : IsBlankReady ghosts shape (Plain rack) a) (goes : Continues ghosts a b) where
-  pub was_led : WasLed ghosts (ghosts.counts rack) (ghosts.tells (behind (below_of b))) (MakeArray shape) a b
-  was_led = record {
-    in_place = all_in_place ghosts none both law shape first rack a b is well blank goes;
-    led = led_of ghosts none both law shape first rack a b is well blank goes;
-  }
 
 -- a fresh buffer has nothing ahead of its source
 pub fresh_is : (unread : List ℕ) (left : Option (List ℕ)) → unread ≡ [] → option_map (λ more. unread ++ more) left ≡ left

@@ -7,12 +7,14 @@ use Rattle.dg_drill.specs.declared.drills.DrillEnd.{DrillEnd}
 use Rattle.dg_run.proofs.Refusing.{le_or_lt}
 use Rattle.dg_run.proofs.Whole.{told_front}
 use Rattle.dg_run.specs.Calls.{Facts, drill_met, met_by, streams_of}
-use Rattle.dg_run.specs.Completes.{Completes, CompletesReplay, CompletesResume, CompletesTrace, IsUnopened, answer_status}
-use Rattle.dg_run.specs.Ends.{Ends, EndsDrilled, EndsReplay, EndsAudit, EndsSaved, EndsTrace, asked_by}
-use Rattle.dg_run.specs.Resumes.{EndsResume}
+use Rattle.dg_run.specs.Completes.{Completes, CompletesReplay, CompletesResume, CompletesTrace, IsText, IsUnopened, answer_status}
+use Rattle.dg_run.specs.Ends.{Ends, EndsDrilled, EndsReplay, EndsAudit, EndsSaved, EndsTrace, FindsCat, FindsLs, asked_by}
+use Rattle.dg_run.specs.Resumes.{AreLines, EndsResumeBy, EndsResumed, RanOn, RanOnKept, ShapeOf, WantedOn, WantedOnKept, WasFound, shape_kept, shape_on, shape_wanted, shape_wanted_kept}
 use Rattle.dg_run.specs.declared.top.Status.{Status}
 use Rattle.dg_run.specs.declared.top.Status.TheVariants.{Done, Usage, BadLine, ReadFault, WriteFault, NoMemory, NoState, Unclean, Refused}
-use Rattle.dg_saved.specs.Ends.{EndsCat, EndsLs}
+use Rattle.dg_saved.specs.Calls as commands
+use Rattle.dg_model.specs.declared.events.Event.{Event}
+use Rattle.dg_model.specs.declared.replies.Reply.{Reply}
 use Rattle.dg_saved.specs.declared.ends.SavedEnd.{SavedEnd}
 use Rattle.dg_text.specs.Lines.{input_of}
 use Rattle.dg_trace.specs.Answers.{IsAccepted, IsAnswer, IsInSize, IsRefused}
@@ -29,31 +31,42 @@ use Rattle.ufs_model.specs.declared.geometries.Geometry.{Geometry}
 abbrev pub NoFault : Status → Type 0
 NoFault status = (status ≡ ReadFault → ⊥) × (status ≡ WriteFault → ⊥)
 
-replay_done : (tells : ℕ → Type 0) (f : Facts) (status : Status) → EndsReplay tells f status → NoFault status → CompletesReplay f status
-replay_done tells f Done ends none events input text = inl refl
-replay_done tells f BadLine ends none events input (is, some) =
+replay_done : (steady : Type 0) (tells : ℕ → Type 0) (f : Facts) (status : Status) → EndsReplay steady tells f status → NoFault status → CompletesReplay f status
+replay_done steady tells f Done ends none events input text = inl refl
+replay_done steady tells f BadLine ends none events input (is, some) =
     let front = told_front _ f.left f.rest (input_of events) is some ends.input in
     absurd (front.1.3 events input refl)
-replay_done tells f ReadFault ends none events input text = absurd (none.0 refl)
-replay_done tells f WriteFault ends none events input text = absurd (none.1 refl)
-replay_done tells f NoMemory ends none events input text = inr refl
-replay_done tells f Usage ends none events input text = absurd ends
-replay_done tells f NoState ends none events input text = absurd ends
-replay_done tells f Unclean ends none events input text = absurd ends
-replay_done tells f Refused ends none events input text = absurd ends
+replay_done steady tells f ReadFault ends none events input text = absurd (none.0 refl)
+replay_done steady tells f WriteFault ends none events input text = absurd (none.1 refl)
+replay_done steady tells f NoMemory ends none events input text = inr refl
+replay_done steady tells f Usage ends none events input text = absurd ends
+replay_done steady tells f NoState ends none events input text = absurd ends
+replay_done steady tells f Unclean ends none events input text = absurd ends
+replay_done steady tells f Refused ends none events input text = absurd ends
 
-resume_done : (tells : ℕ → Type 0) (f : Facts) (status : Status) → EndsResume tells f status → NoFault status → CompletesResume f status
-resume_done tells f Done ends none events lines text = inl refl
-resume_done tells f BadLine ends none events lines (is, some) =
+-- an opened array, by what a run on it means, where lines are acceptable on whichever array that is
+resume_by : (Runs Wants : List Event → List Reply → Type 0) (shape : ShapeOf Runs) (wanted : ShapeOf Wants) (f : Facts) (met : commands.Facts) (status : Status)
+    → EndsResumeBy Runs Wants shape wanted f met status → NoFault status → (events : List Event) → ((done : List Event) (replies : List Reply) (ran : Runs done replies) → AreLines (shape done replies ran) events)
+    → IsText f.left f.rest (input_of events) → (status ≡ Done) ⊎ (IsUnopened status ⊎ (status ≡ NoMemory))
+resume_by Runs Wants shape wanted f met Done ends none events lines text = inl refl
+resume_by Runs Wants shape wanted f met BadLine ends none events lines (is, some) =
     let front = told_front _ f.left f.rest (input_of events) is some ends.input in
-    absurd (front.1.1.none events (lines ends.ran.opened ends.ran.source) refl)
-resume_done tells f ReadFault ends none events lines text = absurd (none.0 refl)
-resume_done tells f WriteFault ends none events lines text = absurd (none.1 refl)
-resume_done tells f NoMemory ends none events lines text = inr (inr refl)
-resume_done tells f Usage ends none events lines text = absurd ends
-resume_done tells f NoState ends none events lines text = inr (inl (inl refl))
-resume_done tells f Unclean ends none events lines text = inr (inl (inr refl))
-resume_done tells f Refused ends none events lines text = absurd ends
+    absurd (front.1.1.none events (lines ends.events ends.replies ends.ran) refl)
+resume_by Runs Wants shape wanted f met ReadFault ends none events lines text = absurd (none.0 refl)
+resume_by Runs Wants shape wanted f met WriteFault ends none events lines text = absurd (none.1 refl)
+resume_by Runs Wants shape wanted f met NoMemory ends none events lines text = inr (inr refl)
+resume_by Runs Wants shape wanted f met Usage ends none events lines text = absurd ends
+resume_by Runs Wants shape wanted f met NoState ends none events lines text = inr (inl (inl refl))
+resume_by Runs Wants shape wanted f met Unclean ends none events lines text = inr (inl (inr refl))
+resume_by Runs Wants shape wanted f met Refused ends none events lines text = absurd ends
+
+resume_done : (steady : Type 0) (tells : ℕ → Type 0) (f : Facts) (status : Status) → EndsResumed steady tells f status → NoFault status → CompletesResume tells f status
+resume_done steady tells f status (inl first) none events plain kept text = inr (inr first.is)
+resume_done steady tells f status (inr (inl h)) none events plain kept text =
+    resume_by (RanOn tells f) (WantedOn tells f) (shape_on tells f) (shape_wanted tells f) f (met_by f) status h.ends none events (λ done replies ran. plain ran.opened ran.source) text
+resume_done steady tells f status (inr (inr h)) none events plain kept text =
+    resume_by (RanOnKept tells (WasFound steady h.sees.known f) f h.seen h.sees.said) (WantedOnKept tells f h.seen h.sees.said) (shape_kept tells (WasFound steady h.sees.known f) f h.seen h.sees.said) (shape_wanted_kept tells f h.seen h.sees.said) f h.seen status
+    h.ends none events (λ done replies ran. kept h.seen h.sees ran.opened ran.source) text
 
 -- a file or a listing
 saved_done : (ends : SavedEnd → Type 0) (taken given : Option (List ℕ)) (status : Status) → EndsSaved ends taken given status → NoFault status
@@ -69,16 +82,17 @@ saved_done ends taken given Usage is none = absurd is
 saved_done ends taken given BadLine is none = absurd is
 
 -- the state
-pub shown_done : (tells : ℕ → Type 0) (f : Facts) (status : Status) → Ends tells f StatusCommand status → NoFault status → Completes f StatusCommand status
-shown_done tells f Done is none = inl refl
-shown_done tells f Refused is none = absurd is
-shown_done tells f NoState is none = inr (inl (inl refl))
-shown_done tells f Unclean is none = inr (inl (inr refl))
-shown_done tells f NoMemory is none = inr (inr refl)
-shown_done tells f ReadFault is none = absurd (none.0 refl)
-shown_done tells f WriteFault is none = absurd (none.1 refl)
-shown_done tells f Usage is none = absurd is
-shown_done tells f BadLine is none = absurd is
+pub shown_done : (steady : Type 0) (tells : ℕ → Type 0) (f : Facts) (status : Status) → Ends steady tells f StatusCommand status → NoFault status → Completes tells f StatusCommand status
+shown_done steady tells f Done is none = inl refl
+shown_done steady tells f Refused (inl is) none = absurd is.ends
+shown_done steady tells f Refused (inr is) none = absurd is.ends
+shown_done steady tells f NoState is none = inr (inl (inl refl))
+shown_done steady tells f Unclean is none = inr (inl (inr refl))
+shown_done steady tells f NoMemory is none = inr (inr refl)
+shown_done steady tells f ReadFault is none = absurd (none.0 refl)
+shown_done steady tells f WriteFault is none = absurd (none.1 refl)
+shown_done steady tells f Usage is none = absurd is
+shown_done steady tells f BadLine is none = absurd is
 
 -- ---- images
 
@@ -154,12 +168,12 @@ drill_done ends taken given Refused is none = absurd is
 
 -- ---- each command
 
-pub completes : OneAnswer → (tells : ℕ → Type 0) (f : Facts) (command : Command) (status : Status) → Ends tells f command status → NoFault status → Completes f command status
-completes one tells f Replay status ends none = replay_done tells f status ends none
-completes one tells f Resume status ends none = resume_done tells f status ends none
-completes one tells f (Cat path) status ends none = saved_done (EndsCat tells (met_by f) path) f.taken f.given status ends none
-completes one tells f (Ls path) status ends none = saved_done (EndsLs tells (met_by f) path) f.taken f.given status ends none
-completes one tells f StatusCommand status ends none = shown_done tells f status ends none
-completes one tells f (Trace order b k m) status ends none = trace_done one (streams_of f) (asked_by order b k m) status ends none
-completes one tells f (Drill seed files) status ends none = drill_done (EndsDrill tells (drill_met f) seed files) f.taken f.given status ends none
-completes one tells f Audit status ends none = audit_done (streams_of f) status ends none
+pub completes : OneAnswer → (steady : Type 0) (tells : ℕ → Type 0) (f : Facts) (command : Command) (status : Status) → Ends steady tells f command status → NoFault status → Completes tells f command status
+completes one steady tells f Replay status ends none = replay_done steady tells f status ends none
+completes one steady tells f Resume status ends none = resume_done steady tells f status ends none
+completes one steady tells f (Cat path) status ends none = saved_done (FindsCat tells (met_by f) path) f.taken f.given status ends none
+completes one steady tells f (Ls path) status ends none = saved_done (FindsLs tells (met_by f) path) f.taken f.given status ends none
+completes one steady tells f StatusCommand status ends none = shown_done steady tells f status ends none
+completes one steady tells f (Trace order b k m) status ends none = trace_done one (streams_of f) (asked_by order b k m) status ends none
+completes one steady tells f (Drill seed files) status ends none = drill_done (EndsDrill tells (drill_met f) seed files) f.taken f.given status ends none
+completes one steady tells f Audit status ends none = audit_done (streams_of f) status ends none

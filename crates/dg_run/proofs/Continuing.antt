@@ -1,27 +1,30 @@
 -- What events leave of an array of the boundaries in use.
-use Rattle.std.proofs.Common.{◌≡◌, ◌⊎◌, ◌∙◌, ◌+◌, ◌-◌, ◌/◌, ◌<◌, ◌≤◌, ℕ, suc, zero, Bool, true, false, List, [], ◌∷◌, ◌++◌, ap, arith, inl, inr, length, slice_index, refl, subst, sym, length-append}
+use Rattle.std.proofs.Common.{◌≡◌, ◌∙◌, ◌+◌, ◌-◌, ◌/◌, ◌<◌, ◌≤◌, ℕ, suc, zero, Bool, true, false, List, [], ◌∷◌, ◌++◌, ap, arith, inl, inr, length, slice_index, refl, subst, sym, length-append}
 use Rattle.std.specs.Prelude.{◌==◌, All, IsSome, filter, if◌then◌else◌, map}
 use Rattle.std.specs.Int.{bit_at}
 use Rattle.std.specs.List.{range_with_len}
+use Rattle.std.proofs.lemmas.Bool.{cases_Bool}
 use Rattle.std.proofs.lemmas.List.{get_or-map, length-map}
 use Rattle.std.proofs.lemmas.List.Elements.{All-cons, All-get_or, All-nil, filter-append}
 use Rattle.dg_io.specs.Makes.{Makes}
-use Rattle.dg_io.specs.MakesLaws.{makes_both, makes_made, makes_none, makes_such}
-use Rattle.dg_io.specs.MadeLaws.{each_such}
-use Rattle.dg_io.specs.RackCalls.{RackCall, IsNotOn}
-use Rattle.dg_io.specs.RackCalls.RackCall.{blanks, calls, extends, looks}
+use Rattle.dg_io.specs.MakesLaws.{makes_both, makes_made, makes_none}
+use Rattle.dg_io.specs.RackCalls.{RackCall}
 use Rattle.dg_io.specs.RackWords.{After}
 use Rattle.dg_io.specs.Reduced.{places_left}
 use Rattle.dg_io.specs.Told.{StillTold}
 use Rattle.dg_io.specs.declared.outside.Rack.{Ghosts}
-use Rattle.dg_model.specs.Lives.{all_live, boundary_at, member_at}
+use Rattle.dg_model.proofs.MemberLaws.{rose_after}
+use Rattle.dg_model.specs.Causes.{Rose}
+use Rattle.dg_model.specs.Lives.{boundary_at, member_at, place_in}
+use Rattle.dg_model.specs.Members.{is_lost}
 use Rattle.dg_model.specs.States.{CountsRise}
 use Rattle.dg_regroup.specs.LiveGhosts.{live}
 use Rattle.dg_regroup.specs.LivePassing.{own_calls, own_writes}
 use Rattle.dg_regroup.specs.LiveRacks.{DropsBoundaries, live_count, live_in, rack_in}
 use Rattle.dg_regroup.specs.declared.live_racks.LiveRack.{LiveRack}
-use Rattle.dg_run.proofs.Segments.{Begins, IsOfKind, Segment, of_reads, of_replacements, of_saves, segment}
-use Rattle.dg_run.specs.Histories.{IsReadyOn, TellsLine, below_of, boundaries_of, live_of}
+use Rattle.dg_run.proofs.Segments.{Begins, IsOfKind, Segment, failed_below, of_reads, of_replacements, of_saves, segment}
+use Rattle.dg_run.proofs.TakenOut.{WentLost, left_there, none_went}
+use Rattle.dg_run.specs.Histories.{IsReadyOn, IsWholeOn, OwnSame, TellsLine, below_of, boundaries_of, live_of}
 use Rattle.dg_run.specs.Steps.{GoesReplaced, GoesSaved, rack_of, shape_of}
 use Rattle.dg_run.specs.declared.arrays.Array.{Array}
 use Rattle.dg_store.specs.Leaves.{IsCallBelow, IsCallOrBlankBelow, IsCallOrExtendBelow}
@@ -101,8 +104,11 @@ pub record ContinuesBy {R : Type 0} (rack : Ghosts R) (may : ℕ → RackCall �
   pub ready : IsReadyOn rack new
   pub line : volumes.line_of new.volume ≡ volumes.line_of old.volume
   pub boundaries : boundaries_of new ≡ boundaries_of old
+  pub whole : IsWholeOn old → IsWholeOn new
+  pub own : OwnSame old new
   pub made : Makes rack (may (boundaries_of old)) (below_of old) (below_of new)
   pub tells : StillTold (rack.bytes (below_of old)) (rack.bytes (below_of new))
+  pub took : WentLost (rack.counts (below_of old)).faults (rack.counts (below_of new)).faults (volumes.members_of old.volume) (live_of old) (live_of new)
 
 module _ {R : Type 0} (rack : Ghosts R) (none : (s : R) → rack.made s [] s) (both : (a b c : R) (x y : List RackCall) → rack.made a x b → rack.made b y c → rack.made a (x ++ y) c)
     (law : (a b : R) (made : List RackCall) → rack.made a made b → After rack made a b) where
@@ -129,7 +135,7 @@ module _ {R : Type 0} (rack : Ghosts R) (none : (s : R) → rack.made s [] s) (b
       (subst (λ (n : ℕ). Makes (live rack) (may n) (rack_of a) (rack_of b)) (sym ready.sound.in_use.number) leaves.own.made) leaves.tells
 
   pub whole_on : (a b : Array (LiveRack R)) → live_in (rack_of b) ≡ live_in (rack_of a) → live_of b ≡ live_of a → boundaries_of b ≡ boundaries_of a
-      → (live_in (rack_of a) ≡ all_live 16) ⊎ (length (live_of a) < boundaries_of a) → (live_in (rack_of b) ≡ all_live 16) ⊎ (length (live_of b) < boundaries_of b)
+      → IsWholeOn a → IsWholeOn b
   whole_on a b same live_is line (inl all) = inl (same ∙ all)
   whole_on a b same live_is line (inr less) = inr (omega (arith, ap length live_is, line, less))
 
@@ -143,14 +149,14 @@ module _ {R : Type 0} (rack : Ghosts R) (none : (s : R) → rack.made s [] s) (b
           sound = leaves.well;
           longer = begins.longer;
           places = begins.places;
-          whole = whole_on a b s.live_is leaves.live leaves.boundaries ready.whole;
-          calls = s.calls ∙ ready.calls;
-          writes = s.writes ∙ ready.writes;
         };
         line = leaves.line;
         boundaries = leaves.boundaries;
+        whole = whole_on a b s.live_is leaves.live leaves.boundaries;
+        own = record { calls = s.calls; writes = s.writes };
         made = s.made;
         tells = s.tells;
+        took = none_went (rack.counts (below_of a)).faults (rack.counts (below_of b)).faults (volumes.members_of a.volume) (live_of a) (live_of b) leaves.live;
       }
 
   -- by calls that read and write, by those of a save, and by those of a replacement
@@ -168,8 +174,11 @@ module _ {R : Type 0} (rack : Ghosts R) (none : (s : R) → rack.made s [] s) (b
     ready = ready;
     line = refl;
     boundaries = refl;
+    whole = λ whole. whole;
+    own = record { calls = refl; writes = refl };
     made = makes_none rack (IsCallBelow (boundaries_of a)) (below_of a);
     tells = λ q told. told;
+    took = none_went (rack.counts (below_of a)).faults (rack.counts (below_of a)).faults (volumes.members_of a.volume) (live_of a) (live_of a) refl;
   }
 
   -- so it tells its volume's members
@@ -231,6 +240,37 @@ module _ {R : Type 0} (rack : Ghosts R) (none : (s : R) → rack.made s [] s) (b
       let most = ready.sound.long in
       omega (arith, count, out.fewer, same_b, fewer, most, goes.boundaries)
 
+  -- a boundary that was taken out was lost before, or a member of it failed meanwhile
+  took_out : (a b : Array (LiveRack R)) → IsReadyOn rack a → GoesOn any_phase (live rack) a.volume b.volume
+      → (out : TakesOut (live rack) live_count DropsBoundaries a.volume.store b.volume.store) → live_of b ≡ map (boundary_at (live_of a)) (left_in out.mid)
+      → WentLost (rack.counts (below_of a)).faults (rack.counts (below_of b)).faults (volumes.members_of a.volume) (live_of a) (live_of b)
+  took_out a b ready goes out is s was gone = elim (cases_Bool (is_lost (volumes.members_of a.volume) place)) [ inl lost ↦ inl lost | inr stood ↦ inr (failed stood) ] where
+    place : ℕ
+    place = place_in (live_of a) s
+
+    p : Parts a b (stores.rack_of out.mid) (stores.rack_of out.left)
+    p = parts_of a b ready goes out is
+
+    number : length (live_of a) ≡ (stores.shape_of out.mid).b
+    number = ready.sound.in_use.number ∙ sym (ap (λ h. h.b) out.opened.shape)
+
+    lost_then : is_lost (stores.members_of out.mid) place ≡ true
+    lost_then = elim (cases_Bool (is_lost (stores.members_of out.mid) place)) [
+      | inl lost ↦ lost
+      | inr stands ↦ absurd (gone (subst (λ (l : List ℕ). place_in l s < length l) (sym is)
+          (left_there (stores.shape_of out.mid) (stores.members_of out.mid) (live_of a) s number was stands)))
+    ]
+
+    later : (m : ℕ) → (rack.counts (rack_in (stores.rack_of out.mid))).faults m ≤ (rack.counts (below_of b)).faults m
+    later m = subst (λ (r : R). (rack.counts r).faults m ≤ (rack.counts (below_of b)).faults m) p.same
+        ((rises (IsCallBelow (boundaries_of a)) (rack_in (stores.rack_of out.left)) (below_of b) p.second.made).faults m)
+
+    failed : is_lost (volumes.members_of a.volume) place ≡ false → (m : ℕ) × (m / 2 ≡ s) × Rose ((rack.counts (below_of a)).faults m) ((rack.counts (below_of b)).faults m)
+    failed stood =
+        let found = failed_below rack none both law (live_of a) (rack_of a) (stores.rack_of out.mid) (begins_of a ready) p.first.live_is
+        (volumes.members_of a.volume) (stores.members_of out.mid) out.falls s was stood lost_then in
+        (found.0, found.1, rose_after _ _ _ found.2 (later found.0))
+
   pub reads_out : (a b : Array (LiveRack R)) → IsReadyOn rack a → GoesOn any_phase (live rack) a.volume b.volume
       → (out : TakesOut (live rack) live_count DropsBoundaries a.volume.store b.volume.store) → live_of b ≡ map (boundary_at (live_of a)) (left_in out.mid) → ContinuesBy rack IsCallBelow a b
   reads_out a b ready goes out is =
@@ -243,15 +283,15 @@ module _ {R : Type 0} (rack : Ghosts R) (none : (s : R) → rack.made s [] s) (b
           sound = goes.well;
           longer = begins.longer;
           places = begins.places;
-          whole = inr (fewer_out a b ready goes out is);
-          calls = p.second.calls ∙ p.own ∙ p.first.calls ∙ ready.calls;
-          writes = p.second.writes ∙ p.own_writes_are ∙ p.first.writes ∙ ready.writes;
         };
         line = goes.line;
         boundaries = goes.boundaries;
+        whole = λ whole. inr (fewer_out a b ready goes out is);
+        own = record { calls = p.second.calls ∙ p.own ∙ p.first.calls; writes = p.second.writes ∙ p.own_writes_are ∙ p.first.writes };
         made = makes_both rack (IsCallBelow (boundaries_of a)) (below_of a) (rack_in mid) (below_of b) p.first.made
             (subst (λ (r : R). Makes rack (IsCallBelow (boundaries_of a)) r (below_of b)) p.same p.second.made);
         tells = λ q told. p.first.tells q (subst (λ (r : R). IsSome (rack.bytes r q)) p.same (p.second.tells q told));
+        took = took_out a b ready goes out is;
       }
 
   -- what is told in the end of the first line's members was told of the members that were in use

@@ -1,13 +1,10 @@
 -- A course over a rack that keeps a checkpoint is a history of a double array.
 use Rattle.std.proofs.Common.{◌≡◌, ◌⊎◌, ◌∙◌, ◌+◌, ◌*◌, ◌/◌, ◌%◌, ◌<◌, ℕ, List, [], ◌∷◌, ◌++◌, ap, arith, get_or, inl, inr, length, map, not, refl, subst, sym}
-use Rattle.std.specs.Prelude.{◌==◌, All, Option, Some, slice_index}
+use Rattle.std.specs.Prelude.{All, Option, Some, slice_index}
 use Rattle.std.specs.List.{range_with_len}
-use Rattle.std.proofs.lemmas.Bool.{cases_lt}
-use Rattle.std.proofs.lemmas.Bool.Decides.{nat_tests}
 use Rattle.std.proofs.lemmas.List.{get_or-map, length-map}
 use Rattle.std.proofs.lemmas.List.Elements.{All-filter, All-get_or}
 use Rattle.std.proofs.lemmas.List.FromFn.{get_or-range_with_len, length-range_with_len}
-use Rattle.std.proofs.lemmas.List.Sums.{fails_before_first}
 use Rattle.dg_io.specs.Makes.{Makes}
 use Rattle.dg_io.specs.MakesLaws.{makes_made, makes_such}
 use Rattle.dg_io.specs.RackCalls.{IsReadOrWrite, RackCall}
@@ -15,10 +12,11 @@ use Rattle.dg_io.specs.RackCalls.RackCall.{blanks, calls, extends, looks}
 use Rattle.dg_io.specs.RackWords.{After}
 use Rattle.dg_io.specs.declared.outside.Rack.{Ghosts}
 use Rattle.dg_model.proofs.RegroupLaws.{place_at}
+use Rattle.dg_model.specs.Causes.{Rose}
 use Rattle.dg_model.specs.Changes.{Stays}
 use Rattle.dg_model.specs.Lives.{left_of, member_at, place_in}
 use Rattle.dg_model.specs.Members.{is_lost}
-use Rattle.dg_model.specs.Moments.{AreCountsOf, Happens, History, IsAllowed, IsInUse, MayBeTooLong, Moment, RisesWith, faults_at}
+use Rattle.dg_model.specs.Moments.{Happens, History, IsAllowed, IsInUse, MayBeTooLong, Moment, RisesWith, faults_at}
 use Rattle.dg_model.specs.Moments.Kind.{double}
 use Rattle.dg_model.specs.Regroups.{Regroups, left_in}
 use Rattle.dg_model.specs.States.{Counts, State, place_of}
@@ -29,25 +27,17 @@ use Rattle.dg_model.specs.declared.members.MemberState.{MemberState}
 use Rattle.dg_model.specs.declared.replies.Reply.{Reply}
 use Rattle.dg_model.specs.declared.replies.Reply.TheVariants.{Done, Range, Degraded, Unavailable, Already, Lost, NotOut, Failed, NotFilling, Copied, Settled, Malformed, NoSpace, Tended, Diffused, NotSettled, Verdict, Blocks, Data, Given, Cut, Listed, ListedCut, Nodes, NodesCut, Refused, HomeAt, NoHome, Saved, NotSaved, Whole, TooFew, Regrouped, LostFiles as LostFilesReply, LostFilesCut, Audited, NotParity, Mended}
 use Rattle.dg_model.specs.declared.shapes.Shape.{Shape}
+use Rattle.dg_run.proofs.BaseTies.{base_both, base_none, base_tied}
+use Rattle.dg_run.proofs.Checkpoints.{number_in}
 use Rattle.dg_run.proofs.Laters.{later_went}
-use Rattle.dg_run.specs.Courses.{AnswersBy, AreInUse, Course, Leading, Standing, Went}
+use Rattle.dg_run.proofs.TakenOut.{place_low}
+use Rattle.dg_run.specs.Bases.{Base, base, base_counts, base_room, outer}
+use Rattle.dg_run.specs.Courses.{AnswersBy, AreFaultsOf, AreInUse, Course, Leading, Standing, Went}
 use Rattle.dg_run.specs.Histories.{on_double}
 use Rattle.dg_run.specs.Replays.{TellsBoundaries}
-use Rattle.dg_stop.specs.StopCalls.{behind}
-use Rattle.dg_stop.specs.StopLaws.{stop_both, stop_none}
-use Rattle.dg_stop.specs.StopRacks.{stop_counts, stop_room, stop_words}
-use Rattle.dg_stop.specs.Ties.{RisesWithBehind, only_tied}
-use Rattle.dg_stop.specs.declared.stop_racks.StopRack.{StopRack}
 use Rattle.dg_store.specs.Leaves.{IsCallBelow}
 
 -- ---- the boundaries in use over a step
-
--- a number that stands in a list has a place there
-place_low : (live : List ℕ) (s k : ℕ) → k < length live → get_or live k 0 ≡ s → place_in live s < length live
-place_low live s k low at = elim (cases_lt (place_in live s) (length live)) [
-  | inl less ↦ less
-  | inr past ↦ absurd (let fails = fails_before_first (λ t. t == s) live k 0 (omega (arith, low, past)) in grind (arith, nat_tests))
-]
 
 -- A step keeps the number of the first line's boundaries, and what is in use then was so before.
 pub record KeepsInUse (old new : State) : Type 0 where
@@ -180,25 +170,17 @@ step_in_use Known old event reply new u h = absurd h
 -- ---- members by their numbers
 
 -- a boundary in use is one of the first line
-number_low : (state : State) (s : ℕ) → AreInUse state → IsInUse state s → s < state.boundaries
+pub number_low : (state : State) (s : ℕ) → AreInUse state → IsInUse state s → s < state.boundaries
 number_low state s in_use low =
     let within : get_or state.live (place_of state s) 0 < state.boundaries = All-get_or (λ t. t < state.boundaries) state.live (place_of state s) 0 low in_use.live.within in
     omega (arith, within, place_at state.live s low)
 
-half : (x p : ℕ) → (2 * x + p % 2) / 2 ≡ x
-half x p = omega arith
-
-odd : (x p : ℕ) → (2 * x + p % 2) % 2 ≡ p % 2
-odd x p = omega arith
-
 -- the count of a member in use is that of the member of this number of the rack
-faults_of : (state : State) (beneath : Counts) (p : ℕ) → AreCountsOf state.live beneath state.counts → IsInUse state (p / 2) → faults_at state p ≡ beneath.faults p
+pub faults_of : (state : State) (beneath : Counts) (p : ℕ) → ((q : ℕ) → q / 2 < length state.live → state.counts.faults q ≡ beneath.faults (member_at state.live q)) → IsInUse state (p / 2)
+    → faults_at state p ≡ beneath.faults p
 faults_of state beneath p tied low =
     let place : ℕ = place_of state (p / 2) in
-    let here : (2 * place + p % 2) / 2 ≡ place = half place p in
-    let at : slice_index state.live ((2 * place + p % 2) / 2) ≡ p / 2 = ap (λ (n : ℕ). slice_index state.live n) here ∙ place_at state.live (p / 2) low in
-    let number : member_at state.live (2 * place + p % 2) ≡ p = omega (arith, at, odd place p) in
-    tied.faults (2 * place + p % 2) (omega (arith, here, low)) ∙ ap (λ (n : ℕ). beneath.faults n) number
+    tied (2 * place + p % 2) (omega (arith, low)) ∙ ap (λ (n : ℕ). beneath.faults n) (number_in state.live p low)
 
 -- ---- what an array answers whose rack keeps a checkpoint
 
@@ -257,16 +239,21 @@ reads_or_writes bound (blanks q) low = absurd low
 reads_or_writes bound (calls q) low = tt
 reads_or_writes bound (extends q) low = absurd low
 
+-- The count of a member that the rack of the run tells rose only where that of that rack did.
+abbrev RisesWithOuter : {R : Type 0} → Ghosts R → Base R → Base R → Type 0
+RisesWithOuter rack old new = (q : ℕ) → rack.tells (outer new) q → (base_counts rack old).faults q < (base_counts rack new).faults q
+    → Rose ((rack.counts (outer old)).faults q) ((rack.counts (outer new)).faults q)
+
 module _ {R : Type 0} (rack : Ghosts R) (none : (s : R) → rack.made s [] s) (both : (a b c : R) (x y : List RackCall) → rack.made a x b → rack.made b y c → rack.made a (x ++ y) c)
     (law : (a b : R) (made : List RackCall) → rack.made a made b → After rack made a b) where
-  -- of an event that makes no member anew nor extends one the counts go with those behind
-  went_tied : (event : Event) (bound : ℕ) (x y : StopRack R) → Went rack event bound x y → RisesWithBehind rack x y ⊎ MayBeTooLong event
+  -- of an event that makes no member anew nor extends one the counts go with those of the rack of the run
+  went_tied : (event : Event) (bound : ℕ) (x y : Base R) → Went rack event bound x y → RisesWithOuter rack x y ⊎ MayBeTooLong event
   went_tied event bound x y went = by event went where
-    read : Makes (stop_words rack) (IsCallBelow bound) x y → RisesWithBehind rack x y
-    read made = only_tied rack law x y (makes_made (stop_words rack) IsReadOrWrite (stop_none rack none) (stop_both rack both) x y
-        (makes_such (stop_words rack) (IsCallBelow bound) IsReadOrWrite (reads_or_writes bound) x y made))
+    read : Makes (base rack) (IsCallBelow bound) x y → RisesWithOuter rack x y
+    read made = base_tied rack law x y (makes_made (base rack) IsReadOrWrite (base_none rack none) (base_both rack both) x y
+        (makes_such (base rack) (IsCallBelow bound) IsReadOrWrite (reads_or_writes bound) x y made))
 
-    by : (e : Event) → Went rack e bound x y → RisesWithBehind rack x y ⊎ MayBeTooLong e
+    by : (e : Event) → Went rack e bound x y → RisesWithOuter rack x y ⊎ MayBeTooLong e
     by (Array s) w = inl (read w)
     by (Safe s) w = inr tt
     by (Parity s n) w = inl (read w)
@@ -292,55 +279,56 @@ module _ {R : Type 0} (rack : Ghosts R) (none : (s : R) → rack.made s [] s) (b
     by (MendDisk s j) w = inl (read w)
 
   module _ (K : Type 0) where
-    rises_with : (old new : Standing (StopRack R)) (event : Event) (reply : Reply) → AreInUse old.state → AreCountsOf old.state.live (stop_counts rack old.rack) old.state.counts
-        → TellsBoundaries (rack.tells (behind new.rack)) new.state → Leading rack K old event reply new → RisesWith event (on_double rack old) (on_double rack new)
+    rises_with : (old new : Standing (Base R)) (event : Event) (reply : Reply) → AreInUse old.state → AreFaultsOf rack old
+        → TellsBoundaries (rack.tells (outer new.rack)) new.state → Leading rack K old event reply new → RisesWith event (on_double rack old) (on_double rack new)
     rises_with old new event reply in_use tied told h p now rose =
         elim (went_tied event new.state.boundaries old.rack new.rack h.went) [
-          | inl goes ↦ inl (goes.tied p (told p (number_low new.state (p / 2) h.in_use now)) (
+          | inl goes ↦ inl (goes p (told p (number_low new.state (p / 2) h.in_use now)) (
               let was = (step_in_use K old.state event reply new.state in_use h.step).was (p / 2) now in
-              omega (arith, rose, faults_of old.state (stop_counts rack old.rack) p tied was, faults_of new.state (stop_counts rack new.rack) p h.tied now)
+              omega (arith, rose, faults_of old.state (base_counts rack old.rack) p tied was, faults_of new.state (base_counts rack new.rack) p h.tied now)
               ))
           | inr long ↦ inr long
         ]
 
-    pub happens_double : (room : ℕ) (old new : Standing (StopRack R)) (event : Event) (reply : Reply) → stop_room old.rack ≡ Some room → AreInUse old.state
-        → AreCountsOf old.state.live (stop_counts rack old.rack) old.state.counts → (K → TellsBoundaries (rack.tells (behind new.rack)) new.state)
+    pub happens_double : (room : ℕ) (old new : Standing (Base R)) (event : Event) (reply : Reply) → base_room old.rack ≡ Some room → AreInUse old.state
+        → AreFaultsOf rack old → (K → TellsBoundaries (rack.tells (outer new.rack)) new.state)
         → Leading rack K old event reply new → Happens K double (on_double rack old) event reply (on_double rack new)
     happens_double room old new event reply has in_use tied told h = record {
       step = h.step;
       allowed = allowed_double (on_double rack old) (on_double rack new) event reply room (subst (λ (o : Option ℕ). AnswersBy old.state event reply o) has h.answers);
       rise = (later_went rack none both law event new.state.boundaries old.rack new.rack h.went).rise;
       tied = λ k. rises_with old new event reply in_use tied (told k) h;
+      took = λ is. absurd (cc is);
     }
 
     -- what the rack of the run tells in the end it told before
-    pub course_told : (old : Standing (StopRack R)) (events : List Event) (replies : List Reply) (new : Standing (StopRack R)) → Course rack K old events replies new
-        → (q : ℕ) → rack.tells (behind new.rack) q → rack.tells (behind old.rack) q
-    course_told old [] [] new h q told = subst (λ (s : Standing (StopRack R)). rack.tells (behind s.rack) q) h told
+    pub course_told : (old : Standing (Base R)) (events : List Event) (replies : List Reply) (new : Standing (Base R)) → Course rack K old events replies new
+        → (q : ℕ) → rack.tells (outer new.rack) q → rack.tells (outer old.rack) q
+    course_told old [] [] new h q told = subst (λ (s : Standing (Base R)). rack.tells (outer s.rack) q) h told
     course_told old [] (reply ∷ replies) new h q told = absurd h
     course_told old (event ∷ events) [] new h q told = absurd h
     course_told old (event ∷ events) (reply ∷ replies) new h q told =
         (later_went rack none both law event h.0.state.boundaries old.rack h.0.rack h.1.went).told_before q (course_told h.0 events replies new h.2 q told)
 
     -- the first line has as many boundaries as before
-    pub course_line : (old : Standing (StopRack R)) (events : List Event) (replies : List Reply) (new : Standing (StopRack R)) → AreInUse old.state → Course rack K old events replies new
+    pub course_line : (old : Standing (Base R)) (events : List Event) (replies : List Reply) (new : Standing (Base R)) → AreInUse old.state → Course rack K old events replies new
         → new.state.boundaries ≡ old.state.boundaries
-    course_line old [] [] new in_use h = ap (λ (s : Standing (StopRack R)). s.state.boundaries) h
+    course_line old [] [] new in_use h = ap (λ (s : Standing (Base R)). s.state.boundaries) h
     course_line old [] (reply ∷ replies) new in_use h = absurd h
     course_line old (event ∷ events) [] new in_use h = absurd h
     course_line old (event ∷ events) (reply ∷ replies) new in_use h =
         course_line h.0 events replies new h.1.in_use h.2 ∙ (step_in_use K old.state event reply h.0.state in_use h.1.step).line
 
     -- so what is known in the end was known before
-    pub course_tells : (old : Standing (StopRack R)) (events : List Event) (replies : List Reply) (new : Standing (StopRack R)) → AreInUse old.state → Course rack K old events replies new
-        → TellsBoundaries (rack.tells (behind new.rack)) new.state → TellsBoundaries (rack.tells (behind old.rack)) old.state
+    pub course_tells : (old : Standing (Base R)) (events : List Event) (replies : List Reply) (new : Standing (Base R)) → AreInUse old.state → Course rack K old events replies new
+        → TellsBoundaries (rack.tells (outer new.rack)) new.state → TellsBoundaries (rack.tells (outer old.rack)) old.state
     course_tells old events replies new in_use h told q low =
         course_told old events replies new h q (told q (subst (λ (n : ℕ). q / 2 < n) (sym (course_line old events replies new in_use h)) low))
 
-    pub history_double : (room : ℕ) (old : Standing (StopRack R)) (events : List Event) (replies : List Reply) (new : Standing (StopRack R)) → stop_room old.rack ≡ Some room → AreInUse old.state
-        → AreCountsOf old.state.live (stop_counts rack old.rack) old.state.counts → (K → TellsBoundaries (rack.tells (behind new.rack)) new.state)
+    pub history_double : (room : ℕ) (old : Standing (Base R)) (events : List Event) (replies : List Reply) (new : Standing (Base R)) → base_room old.rack ≡ Some room → AreInUse old.state
+        → AreFaultsOf rack old → (K → TellsBoundaries (rack.tells (outer new.rack)) new.state)
         → Course rack K old events replies new → History K double (on_double rack old) events replies (on_double rack new)
-    history_double room old [] [] new has in_use tied told h = ap (λ (s : Standing (StopRack R)). on_double rack s) h
+    history_double room old [] [] new has in_use tied told h = ap (λ (s : Standing (Base R)). on_double rack s) h
     history_double room old [] (reply ∷ replies) new has in_use tied told h = absurd h
     history_double room old (event ∷ events) [] new has in_use tied told h = absurd h
     history_double room old (event ∷ events) (reply ∷ replies) new has in_use tied told h =

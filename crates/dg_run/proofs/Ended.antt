@@ -9,6 +9,7 @@ use Rattle.dg_run.specs.Arrays.{IsOfReplay}
 use Rattle.dg_run.specs.Calls.{Facts}
 use Rattle.dg_run.specs.Ends.{Ends, EndsDrilled, EndsReplay, EndsAudit, EndsSaved, EndsTrace, EndsUsage, audit_status, drill_status, status_by, trace_status}
 use Rattle.dg_run.specs.Replays.{BrokeOff, IsCut, RanOut, Replayed, Stopped}
+use Rattle.dg_run.specs.Resumes.{EndsResumed}
 use Rattle.dg_run.specs.declared.top.Status.{Status}
 use Rattle.dg_run.specs.declared.top.Status.TheVariants.{Done, Usage, BadLine, ReadFault, WriteFault, NoMemory, NoState, Unclean, Refused}
 use Rattle.dg_saved.specs.declared.ends.SavedEnd.{SavedEnd}
@@ -32,19 +33,19 @@ use Rattle.dg_words.specs.declared.commands.WordsRefused.{WordsRefused}
 use Rattle.dg_words.specs.declared.commands.WordsRefused.TheVariants.{Usage as NotWords, NoMemory as WordsNoMemory}
 
 -- a replay ended, by its status
-pub ends_replay : (tells : ℕ → Type 0) (f : Facts) (status : Status) → (status ≡ Done → Replayed f.before f.now f.images f.bytes tells f.left f.rest f.taken f.given)
-    → (status ≡ BadLine → Stopped f.before f.now f.images f.bytes tells f.left f.rest f.taken f.given) → (status ≡ ReadFault → BrokeOff f.before f.now f.images f.bytes tells f.left f.rest f.taken f.given)
-    → (status ≡ WriteFault → IsCut f.before f.now f.images f.bytes tells f.left f.rest f.taken f.given) → (status ≡ NoMemory → RanOut f.before tells f.left f.rest f.taken f.given)
-    → IsOfReplay status → EndsReplay tells f status
-ends_replay tells f Done all stopped broken cut wanting never = all refl
-ends_replay tells f BadLine all stopped broken cut wanting never = stopped refl
-ends_replay tells f ReadFault all stopped broken cut wanting never = broken refl
-ends_replay tells f WriteFault all stopped broken cut wanting never = cut refl
-ends_replay tells f NoMemory all stopped broken cut wanting never = wanting refl
-ends_replay tells f Usage all stopped broken cut wanting never = absurd never
-ends_replay tells f NoState all stopped broken cut wanting never = absurd never
-ends_replay tells f Unclean all stopped broken cut wanting never = absurd never
-ends_replay tells f Refused all stopped broken cut wanting never = absurd never
+pub ends_replay : (steady : Type 0) (tells : ℕ → Type 0) (f : Facts) (status : Status) → (status ≡ Done → Replayed f.before f.now f.images f.bytes steady tells f.left f.rest f.taken f.given)
+    → (status ≡ BadLine → Stopped f.before f.now f.images f.bytes steady tells f.left f.rest f.taken f.given) → (status ≡ ReadFault → BrokeOff f.before f.now f.images f.bytes steady tells f.left f.rest f.taken f.given)
+    → (status ≡ WriteFault → IsCut f.before f.now f.images f.bytes steady tells f.left f.rest f.taken f.given) → (status ≡ NoMemory → RanOut f.before tells f.left f.rest f.taken f.given)
+    → IsOfReplay status → EndsReplay steady tells f status
+ends_replay steady tells f Done all stopped broken cut wanting never = all refl
+ends_replay steady tells f BadLine all stopped broken cut wanting never = stopped refl
+ends_replay steady tells f ReadFault all stopped broken cut wanting never = broken refl
+ends_replay steady tells f WriteFault all stopped broken cut wanting never = cut refl
+ends_replay steady tells f NoMemory all stopped broken cut wanting never = wanting refl
+ends_replay steady tells f Usage all stopped broken cut wanting never = absurd never
+ends_replay steady tells f NoState all stopped broken cut wanting never = absurd never
+ends_replay steady tells f Unclean all stopped broken cut wanting never = absurd never
+ends_replay steady tells f Refused all stopped broken cut wanting never = absurd never
 
 -- words that are no command, by the status
 pub ends_usage : (f : Facts) (status : Status) → (status ≡ Usage) ⊎ (status ≡ WriteFault) → (status ≡ Usage → Told (Took usage) f.taken f.given)
@@ -90,15 +91,21 @@ unread : (left rest : Option (List ℕ)) → rest ≡ left → Told GavePart lef
 unread left rest same = subst (λ (o : Option (List ℕ)). Told GavePart left o) (sym same) (Told-refl GavePart none_read left)
 
 -- memory was wanting before anything was done
-pub wanted_first : (tells : ℕ → Type 0) (f : Facts) (command : Command) → f.rest ≡ f.left → f.given ≡ f.taken → Ends tells f command NoMemory
-wanted_first tells f Replay left taken = inl (left, taken)
-wanted_first tells f Resume left taken = inl (left, taken)
-wanted_first tells f (Cat path) left taken = taken
-wanted_first tells f (Ls path) left taken = taken
-wanted_first tells f StatusCommand left taken = taken
-wanted_first tells f (Trace order b k m) left taken = inl (record { read = unread f.left f.rest left; output = taken })
-wanted_first tells f Audit left taken = inl (record { read = unread f.left f.rest left; output = taken })
-wanted_first tells f (Drill seed files) left taken = taken
+pub wanted_first : (steady : Type 0) (tells : ℕ → Type 0) (f : Facts) (command : Command) → f.rest ≡ f.left → f.given ≡ f.taken → Ends steady tells f command NoMemory
+wanted_first steady tells f Replay left taken = inl (left, taken)
+wanted_first steady tells f Resume left taken = inl (record { is = refl; reads = left; prints = taken })
+wanted_first steady tells f (Cat path) left taken = taken
+wanted_first steady tells f (Ls path) left taken = taken
+wanted_first steady tells f StatusCommand left taken = taken
+wanted_first steady tells f (Trace order b k m) left taken = inl (record { read = unread f.left f.rest left; output = taken })
+wanted_first steady tells f Audit left taken = inl (record { read = unread f.left f.rest left; output = taken })
+wanted_first steady tells f (Drill seed files) left taken = taken
+
+-- a trace on the saved array is one of a command
+pub no_usage : (steady : Type 0) (tells : ℕ → Type 0) (f : Facts) → EndsResumed steady tells f Usage → ⊥
+no_usage steady tells f (inl first) = let same : Usage ≡ NoMemory = first.is in cc same
+no_usage steady tells f (inr (inl h)) = h.ends
+no_usage steady tells f (inr (inr h)) = h.ends
 
 -- ---- the words
 

@@ -1,5 +1,5 @@
 -- What events leave of the rack of the run, and of an array that stands on it.
-use Rattle.std.proofs.Common.{◌≡◌, ◌≢◌, ◌⊎◌, ◌∙◌, ◌/◌, ◌≤◌, ◌<◌, ℕ, true, false, List, [], ◌++◌, ap, arith, inl, inr, map, refl, subst, sym}
+use Rattle.std.proofs.Common.{◌≡◌, ◌⊎◌, ◌∙◌, ◌/◌, ◌≤◌, ◌<◌, ℕ, true, List, [], ◌++◌, ap, arith, inl, inr, map, refl, subst, sym}
 use Rattle.dg_io.specs.Makes.{Makes}
 use Rattle.dg_io.specs.MakesLaws.{makes_made, makes_such}
 use Rattle.dg_io.specs.MadeLaws.{each_such}
@@ -7,31 +7,25 @@ use Rattle.dg_io.specs.RackCalls.{IsNotOn, RackCall}
 use Rattle.dg_io.specs.RackCalls.RackCall.{blanks, calls, extends, looks}
 use Rattle.dg_io.specs.RackWords.{After}
 use Rattle.dg_io.specs.declared.outside.Rack.{Ghosts}
-use Rattle.dg_model.specs.States.{Counts, CountsRise}
 use Rattle.dg_model.specs.declared.events.Event.{Event}
 use Rattle.dg_model.specs.declared.events.Event.TheVariants.{Array as MakeArray, Safe, Parity, Write, Read, Fail, Replace, Rebuild, Settle, Tend, Diffuse, Who, Pending, Cat, Ls, Tree, Home, Save, Regroup, LostFiles, Audit, DropDisk, MendDisk}
 use Rattle.dg_model.specs.Lives.{boundary_at}
 use Rattle.dg_regroup.specs.LiveRacks.{DropsBoundaries, LiveCommits, live_count, live_in, live_room}
+use Rattle.dg_run.proofs.BaseTies.{base_after, base_both, base_none, kept_alone, kept_name, kept_out, kept_plain, kept_rise, kept_room, kept_still, kept_tell, kept_told, outer_alone, outer_name, outer_plain, outer_rise, outer_room, outer_stand, outer_still, outer_told, tells_outer, told_outer}
 use Rattle.dg_run.proofs.Continuing.{ContinuesBy, begins_on, reads_by, reads_none, reads_out, replaces_by, saves_by, whole_on}
-use Rattle.dg_run.proofs.Segments.{IsOfKind, of_reads, of_replacements, of_saves}
+use Rattle.dg_run.proofs.TakenOut.{WentLost, none_went}
+use Rattle.dg_run.specs.Bases.{Base, BaseCommits, base, base_counts, base_room, outer}
 use Rattle.dg_run.specs.Courses.{Went}
 use Rattle.dg_run.specs.Histories.{Continues, IsReady, Later, Running, TellsLine, below_of, boundaries_of, live_of, running}
 use Rattle.dg_run.specs.Plain.{is_plain}
 use Rattle.dg_run.specs.Steps.{GoesKept, GoesReplaced, GoesSaved, IsSound, rack_of}
 use Rattle.dg_stop.specs.DoubleLaws.{alone_both, alone_none}
-use Rattle.dg_stop.specs.Doubles.{LeavesAlone}
-use Rattle.dg_stop.specs.StopCalls.{behind}
-use Rattle.dg_stop.specs.StopLaws.{stop_after, stop_both, stop_none}
-use Rattle.dg_stop.specs.StopRacks.{StopCommits, stop_room, stop_stands_in, stop_words}
-use Rattle.dg_stop.specs.Ties.{calls_alone, calls_name, calls_rise, calls_room, calls_stand, calls_told, commits_alone, commits_name, commits_out, commits_rise, commits_room, commits_tell, commits_told, told_behind, tells_behind}
-use Rattle.dg_stop.specs.declared.stop_racks.StopRack.{StopRack}
 use Rattle.dg_store.specs.Leaves.{IsAnyCallBelow, IsCallBelow, IsCallOrBlankBelow, IsCallOrExtendBelow}
 use Rattle.dg_store.specs.ReadLaws.{any_of_blank, any_of_call, any_of_extend}
 use Rattle.dg_store.specs.Reduced.{left_in}
-use Rattle.dg_store.specs.Stores as stores
 use Rattle.dg_volume.specs.Commits.{KeepsSaved}
 use Rattle.dg_volume.specs.Regroups.{GoesOn, KeepsOrLeaves, TakesOut}
-use Rattle.dg_volume.specs.Volumes.{Leaves, any_phase}
+use Rattle.dg_volume.specs.Volumes.{Leaves, any_phase, members_of}
 
 -- a call on a member below isn't on one past it
 not_on : (bound p : ℕ) → bound ≤ p / 2 → (call : RackCall) → IsAnyCallBelow bound call → IsNotOn p call
@@ -44,43 +38,53 @@ not_on bound p past (extends q) low = λ same. omega (arith, past, low, same)
 pub record GoesBy {R : Type 0} (rack : Ghosts R) (event : Event) (a b : Running R) : Type 0 where
   pub on : Continues rack a b
   pub went : Went rack event (boundaries_of a) (below_of a) (below_of b)
+  pub took : WentLost (base_counts rack (below_of a)).faults (base_counts rack (below_of b)).faults (members_of a.volume) (live_of a) (live_of b)
 
 module _ {R : Type 0} (rack : Ghosts R) (none : (s : R) → rack.made s [] s) (both : (a b c : R) (x y : List RackCall) → rack.made a x b → rack.made b y c → rack.made a (x ++ y) c)
     (law : (a b : R) (made : List RackCall) → rack.made a made b → After rack made a b) where
   -- ---- the rack
 
-  pub later_made : (bound : ℕ) (x y : StopRack R) → Makes (stop_words rack) (IsAnyCallBelow bound) x y → Later rack bound x y
+  pub later_made : (bound : ℕ) (x y : Base R) → Makes (base rack) (IsAnyCallBelow bound) x y → Later rack bound x y
   later_made bound x y made =
-      let whole = makes_made (stop_words rack) (IsAnyCallBelow bound) (stop_none rack none) (stop_both rack both) x y made in
+      let whole = makes_made (base rack) (IsAnyCallBelow bound) (base_none rack none) (base_both rack both) x y made in
       record {
-        rise = calls_rise rack law x y whole.calls whole.made;
-        told_before = calls_told rack law x y whole.calls whole.made;
-        same_rack = calls_name rack law x y whole.calls whole.made;
-        room = calls_room rack x y whole.calls whole.made;
+        rise = outer_rise rack law x y whole.calls whole.made;
+        told_before = outer_told rack law x y whole.calls whole.made;
+        same_rack = outer_name rack law x y whole.calls whole.made;
+        room = outer_room rack x y whole.calls whole.made;
+        plain = outer_plain rack x y whole.calls whole.made;
+        still = outer_still rack x y whole.calls whole.made;
+        shows = whole.made.length;
         others = λ q past out.
             let each = each_such (IsAnyCallBelow bound) (IsNotOn q) (not_on bound q past) whole.calls whole.each in
-            (calls_alone rack law x y whole.calls whole.made q each, calls_stand rack x y whole.calls whole.made q each ∙ out);
+            (outer_alone rack law x y whole.calls whole.made q each, outer_stand rack x y whole.calls whole.made q each ∙ out);
       }
 
-  pub later_committed : (bound : ℕ) (x y : StopRack R) → StopCommits rack x y → Later rack bound x y
+  pub later_committed : (bound : ℕ) (x y : Base R) → BaseCommits rack x y → Later rack bound x y
   later_committed bound x y commits = record {
-    rise = commits_rise rack x y commits;
-    told_before = commits_told rack x y commits;
-    same_rack = commits_name rack x y commits;
-    room = commits_room rack x y commits;
-    others = λ q past out. (commits_alone rack x y commits q out, commits_out rack x y commits q out);
+    rise = kept_rise rack x y commits;
+    told_before = kept_told rack x y commits;
+    same_rack = kept_name rack x y commits;
+    room = kept_room rack x y commits;
+    plain = kept_plain rack x y commits;
+    still = kept_still rack x y commits;
+    shows = commits.length;
+    others = λ q past out. (kept_alone rack x y commits q out, kept_out rack x y commits q out);
   }
 
-  pub later_none : (bound : ℕ) (x : StopRack R) → Later rack bound x x
+  pub later_none : (bound : ℕ) (x : Base R) → Later rack bound x x
   later_none bound x = record {
     rise = record { faults = λ q. omega arith; calls = omega arith; writes = omega arith };
     told_before = λ q told. told;
     same_rack = refl;
     room = refl;
-    others = λ q past out. (alone_none rack q (behind x), out);
+    plain = λ plain. plain;
+    still = λ q whole. whole;
+    shows = refl;
+    others = λ q past out. (alone_none rack q (outer x), out);
   }
 
-  pub later_both : (bound : ℕ) (x y z : StopRack R) → Later rack bound x y → Later rack bound y z → Later rack bound x z
+  pub later_both : (bound : ℕ) (x y z : Base R) → Later rack bound x y → Later rack bound y z → Later rack bound x z
   later_both bound x y z first second = record {
     rise = record {
       faults = λ q. omega (arith, first.rise.faults q, second.rise.faults q);
@@ -90,54 +94,37 @@ module _ {R : Type 0} (rack : Ghosts R) (none : (s : R) → rack.made s [] s) (b
     told_before = λ q told. first.told_before q (second.told_before q told);
     same_rack = second.same_rack ∙ first.same_rack;
     room = second.room ∙ first.room;
+    plain = λ plain. second.plain (first.plain plain);
+    still = λ q whole. second.still q (first.still q whole);
+    shows = second.shows ∙ first.shows;
     others = λ q past out.
         let front = first.others q past out in
         let back = second.others q past front.1 in
-        (alone_both rack q (behind x) (behind y) (behind z) front.0 back.0, back.1);
+        (alone_both rack q (outer x) (outer y) (outer z) front.0 back.0, back.1);
   }
 
-  -- what an event leaves of it
-  pub later_went : (event : Event) (bound : ℕ) (x y : StopRack R) → Went rack event bound x y → Later rack bound x y
-  later_went event bound x y went = by event went where
-    saved : (mid : StopRack R) → Makes (stop_words rack) (IsCallOrExtendBelow bound) x mid → (y ≡ mid) ⊎ StopCommits rack mid y → Later rack bound x y
-    saved mid made (inl same) = subst (λ (s : StopRack R). Later rack bound x s) (sym same)
-        (later_made bound x mid (makes_such (stop_words rack) (IsCallOrExtendBelow bound) (IsAnyCallBelow bound) (any_of_extend bound) x mid made))
-    saved mid made (inr commits) = later_both bound x mid y
-        (later_made bound x mid (makes_such (stop_words rack) (IsCallOrExtendBelow bound) (IsAnyCallBelow bound) (any_of_extend bound) x mid made))
-        (later_committed bound mid y commits)
+  -- what an event leaves of it: calls, and then nothing or a commit
+  pub went_by : (event : Event) (bound : ℕ) (x y : Base R) → Went rack event bound x y
+      → (mid : Base R) × Makes (base rack) (IsAnyCallBelow bound) x mid × ((y ≡ mid) ⊎ BaseCommits rack mid y)
+  went_by event bound x y went = by event went where
+    read : Makes (base rack) (IsCallBelow bound) x y → (mid : Base R) × Makes (base rack) (IsAnyCallBelow bound) x mid × ((y ≡ mid) ⊎ BaseCommits rack mid y)
+    read made = (y, makes_such (base rack) (IsCallBelow bound) (IsAnyCallBelow bound) (any_of_call bound) x y made, inl refl)
 
-    read : Makes (stop_words rack) (IsCallBelow bound) x y → Later rack bound x y
-    read made = later_made bound x y (makes_such (stop_words rack) (IsCallBelow bound) (IsAnyCallBelow bound) (any_of_call bound) x y made)
+    by : (e : Event) → Went rack e bound x y → (mid : Base R) × Makes (base rack) (IsAnyCallBelow bound) x mid × ((y ≡ mid) ⊎ BaseCommits rack mid y)
+    by (Replace s j) w = (y, makes_such (base rack) (IsCallOrBlankBelow bound) (IsAnyCallBelow bound) (any_of_blank bound) x y w, inl refl)
+    by Save w = (w.0, makes_such (base rack) (IsCallOrExtendBelow bound) (IsAnyCallBelow bound) (any_of_extend bound) x w.0 w.1, w.2)
+    by event w = read w
 
-    by : (e : Event) → Went rack e bound x y → Later rack bound x y
-    by (MakeArray s) w = read w
-    by (Safe s) w = read w
-    by (Parity s n) w = read w
-    by (Write b x) w = read w
-    by (Read b) w = read w
-    by (Fail s j) w = read w
-    by (Replace s j) w = later_made bound x y (makes_such (stop_words rack) (IsCallOrBlankBelow bound) (IsAnyCallBelow bound) (any_of_blank bound) x y w)
-    by (Rebuild s n) w = read w
-    by Settle w = read w
-    by (Tend n) w = read w
-    by Diffuse w = read w
-    by (Who b) w = read w
-    by Pending w = read w
-    by (Cat p) w = read w
-    by (Ls p) w = read w
-    by Tree w = read w
-    by (Home p) w = read w
-    by Save w = saved w.0 w.1 w.2
-    by Regroup w = read w
-    by LostFiles w = read w
-    by Audit w = read w
-    by (DropDisk s j) w = read w
-    by (MendDisk s j) w = read w
+  pub later_went : (event : Event) (bound : ℕ) (x y : Base R) → Went rack event bound x y → Later rack bound x y
+  later_went event bound x y went = let parts = went_by event bound x y went in by parts.0 parts.1 parts.2 where
+    by : (mid : Base R) → Makes (base rack) (IsAnyCallBelow bound) x mid → (y ≡ mid) ⊎ BaseCommits rack mid y → Later rack bound x y
+    by mid made (inl same) = subst (λ (s : Base R). Later rack bound x s) (sym same) (later_made bound x mid made)
+    by mid made (inr commits) = later_both bound x mid y (later_made bound x mid made) (later_committed bound mid y commits)
 
   -- ---- events
 
   -- an event that makes no member anew nor extends one reads and writes
-  went_plain : (event : Event) → is_plain event ≡ true → (bound : ℕ) (x y : StopRack R) → Makes (stop_words rack) (IsCallBelow bound) x y → Went rack event bound x y
+  went_plain : (event : Event) → is_plain event ≡ true → (bound : ℕ) (x y : Base R) → Makes (base rack) (IsCallBelow bound) x y → Went rack event bound x y
   went_plain (MakeArray s) is bound x y made = made
   went_plain (Safe s) is bound x y made = made
   went_plain (Parity s n) is bound x y made = made
@@ -162,44 +149,47 @@ module _ {R : Type 0} (rack : Ghosts R) (none : (s : R) → rack.made s [] s) (b
   went_plain (DropDisk s j) is bound x y made = made
   went_plain (MendDisk s j) is bound x y made = made
 
-  goes_of : {event : Event} (may : ℕ → RackCall → Type 0) → ((bound : ℕ) (x y : StopRack R) → Makes (stop_words rack) (may bound) x y → Went rack event bound x y)
-      → (a b : Running R) → ContinuesBy (stop_words rack) may a b → GoesBy rack event a b
+  goes_of : {event : Event} (may : ℕ → RackCall → Type 0) → ((bound : ℕ) (x y : Base R) → Makes (base rack) (may bound) x y → Went rack event bound x y)
+      → (a b : Running R) → ContinuesBy (base rack) may a b → GoesBy rack event a b
   goes_of {event = event} may went a b goes = let here = went (boundaries_of a) (below_of a) (below_of b) goes.made in record {
     on = record {
       ready = goes.ready;
       line = goes.line;
       boundaries = goes.boundaries;
+      whole = goes.whole;
+      own = goes.own;
       later = later_went event (boundaries_of a) (below_of a) (below_of b) here;
       tells = goes.tells;
     };
     went = here;
+    took = goes.took;
   }
 
   -- by an event that reads and writes
-  pub goes_read : {event : Event} → ((bound : ℕ) (x y : StopRack R) → Makes (stop_words rack) (IsCallBelow bound) x y → Went rack event bound x y) → (a b : Running R) → IsReady rack a
+  pub goes_read : {event : Event} → ((bound : ℕ) (x y : Base R) → Makes (base rack) (IsCallBelow bound) x y → Went rack event bound x y) → (a b : Running R) → IsReady rack a
       → Leaves any_phase any_phase (running rack) a.volume b.volume → GoesBy rack event a b
   goes_read went a b ready leaves =
-      goes_of IsCallBelow went a b (reads_by (stop_words rack) (stop_none rack none) (stop_both rack both) (stop_after rack law) a b ready leaves)
+      goes_of IsCallBelow went a b (reads_by (base rack) (base_none rack none) (base_both rack both) (base_after rack law) a b ready leaves)
 
   pub goes_plain : (event : Event) → is_plain event ≡ true → (a b : Running R) → IsReady rack a → Leaves any_phase any_phase (running rack) a.volume b.volume → GoesBy rack event a b
   goes_plain event is a b ready leaves = goes_read (went_plain event is) a b ready leaves
 
-  pub goes_none : {event : Event} → ((bound : ℕ) (x y : StopRack R) → Makes (stop_words rack) (IsCallBelow bound) x y → Went rack event bound x y) → (a : Running R) → IsReady rack a
+  pub goes_none : {event : Event} → ((bound : ℕ) (x y : Base R) → Makes (base rack) (IsCallBelow bound) x y → Went rack event bound x y) → (a : Running R) → IsReady rack a
       → GoesBy rack event a a
-  goes_none went a ready = goes_of IsCallBelow went a a (reads_none (stop_words rack) (stop_none rack none) (stop_both rack both) (stop_after rack law) a ready)
+  goes_none went a ready = goes_of IsCallBelow went a a (reads_none (base rack) (base_none rack none) (base_both rack both) (base_after rack law) a ready)
 
   -- by one that makes a member anew
   pub goes_replaced : (s j : ℕ) (a b : Running R) → IsReady rack a → GoesReplaced (running rack) a b → GoesBy rack (Replace s j) a b
   goes_replaced s j a b ready leaves =
-      goes_of IsCallOrBlankBelow (λ bound x y made. made) a b (replaces_by (stop_words rack) (stop_none rack none) (stop_both rack both) (stop_after rack law) a b ready leaves)
+      goes_of IsCallOrBlankBelow (λ bound x y made. made) a b (replaces_by (base rack) (base_none rack none) (base_both rack both) (base_after rack law) a b ready leaves)
 
   -- by a save, which may make a checkpoint
-  module _ (a b : Running R) (ready : IsReady rack a) (k : KeepsSaved any_phase (running rack) (live_room stop_room) (LiveCommits (StopCommits rack)) a.volume b.volume) where
-    abbrev mid : Running R
+  module _ (a b : Running R) (ready : IsReady rack a) (k : KeepsSaved any_phase (running rack) (live_room base_room) (LiveCommits (BaseCommits rack)) a.hot a.volume b.volume) where
+    abbrev pub mid : Running R
     mid = record { volume = k.mid; hot = a.hot }
 
-    saved : ContinuesBy (stop_words rack) IsCallOrExtendBelow a mid
-    saved = saves_by (stop_words rack) (stop_none rack none) (stop_both rack both) (stop_after rack law) a mid ready k.saved
+    pub saved : ContinuesBy (base rack) IsCallOrExtendBelow a mid
+    saved = saves_by (base rack) (base_none rack none) (base_both rack both) (base_after rack law) a mid ready k.saved
 
     same_in : live_in (rack_of b) ≡ live_in (rack_of mid)
     same_in = ap (λ l. l.items) k.commits.beside.live
@@ -211,38 +201,39 @@ module _ {R : Type 0} (rack : Ghosts R) (none : (s : R) → rack.made s [] s) (b
           sound = sound;
           longer = begins.longer;
           places = begins.places;
-          whole = whole_on (stop_words rack) (stop_none rack none) (stop_both rack both) (stop_after rack law) mid b same_in k.live (boundaries ∙ sym saved.boundaries) saved.ready.whole;
-          calls = k.commits.beside.calls ∙ saved.ready.calls;
-          writes = k.commits.beside.writes ∙ saved.ready.writes;
         }
 
-  goes_by_kept : (a b : Running R) → IsReady rack a → (goes : GoesKept (running rack) (live_room stop_room) (LiveCommits (StopCommits rack)) a b)
-      → GoesSaved (running rack) a b ⊎ KeepsSaved any_phase (running rack) (live_room stop_room) (LiveCommits (StopCommits rack)) a.volume b.volume → GoesBy rack Save a b
+  goes_by_kept : (a b : Running R) → IsReady rack a → (goes : GoesKept (running rack) (live_room base_room) (LiveCommits (BaseCommits rack)) a b)
+      → GoesSaved (running rack) a b ⊎ KeepsSaved any_phase (running rack) (live_room base_room) (LiveCommits (BaseCommits rack)) a.hot a.volume b.volume → GoesBy rack Save a b
   goes_by_kept a b ready goes (inl saved) =
-      goes_of IsCallOrExtendBelow (λ bound x y made. (y, made, inl refl)) a b (saves_by (stop_words rack) (stop_none rack none) (stop_both rack both) (stop_after rack law) a b ready saved)
+      goes_of IsCallOrExtendBelow (λ bound x y made. (y, made, inl refl)) a b (saves_by (base rack) (base_none rack none) (base_both rack both) (base_after rack law) a b ready saved)
   goes_by_kept a b ready goes (inr k) =
       let first = saved a b ready k in
-      let commits : StopCommits rack (below_of (mid a b ready k)) (below_of b) = k.commits.beside.below in
+      let commits : BaseCommits rack (below_of (mid a b ready k)) (below_of b) = k.commits.beside.below in
       let went : Went rack Save (boundaries_of a) (below_of a) (below_of b) = (below_of (mid a b ready k), first.made, inr commits) in
       record {
         on = record {
           ready = ready_kept a b ready k goes.sound goes.boundaries;
           line = goes.line;
           boundaries = goes.boundaries;
+          whole = λ whole. whole_on (base rack) (base_none rack none) (base_both rack both) (base_after rack law) (mid a b ready k) b (same_in a b ready k) k.live
+              (goes.boundaries ∙ sym first.boundaries) (first.whole whole);
+          own = record { calls = k.commits.beside.calls ∙ first.own.calls; writes = k.commits.beside.writes ∙ first.own.writes };
           later = later_went Save (boundaries_of a) (below_of a) (below_of b) went;
-          tells = λ q told. first.tells q (commits_tell rack (below_of (mid a b ready k)) (below_of b) commits q told);
+          tells = λ q told. first.tells q (kept_tell rack (below_of (mid a b ready k)) (below_of b) commits q told);
         };
         went = went;
+        took = none_went (base_counts rack (below_of a)).faults (base_counts rack (below_of b)).faults (members_of a.volume) (live_of a) (live_of b) (k.live ∙ k.saved.live);
       }
 
-  pub goes_saved : (a b : Running R) → IsReady rack a → GoesKept (running rack) (live_room stop_room) (LiveCommits (StopCommits rack)) a b → GoesBy rack Save a b
+  pub goes_saved : (a b : Running R) → IsReady rack a → GoesKept (running rack) (live_room base_room) (LiveCommits (BaseCommits rack)) a b → GoesBy rack Save a b
   goes_saved a b ready goes = goes_by_kept a b ready goes goes.by
 
   -- by one that takes boundaries out of use
   pub goes_out : (a b : Running R) → IsReady rack a → GoesOn any_phase (running rack) a.volume b.volume
       → (out : TakesOut (running rack) live_count DropsBoundaries a.volume.store b.volume.store) → live_of b ≡ map (boundary_at (live_of a)) (left_in out.mid) → GoesBy rack Regroup a b
   goes_out a b ready goes out is =
-      goes_of IsCallBelow (λ bound x y made. made) a b (reads_out (stop_words rack) (stop_none rack none) (stop_both rack both) (stop_after rack law) a b ready goes out is)
+      goes_of IsCallBelow (λ bound x y made. made) a b (reads_out (base rack) (base_none rack none) (base_both rack both) (base_after rack law) a b ready goes out is)
 
   -- ---- any of them
 
@@ -263,12 +254,14 @@ module _ {R : Type 0} (rack : Ghosts R) (none : (s : R) → rack.made s [] s) (b
     ready = second.ready;
     line = second.line ∙ first.line;
     boundaries = second.boundaries ∙ first.boundaries;
+    whole = λ whole. second.whole (first.whole whole);
+    own = record { calls = second.own.calls ∙ first.own.calls; writes = second.own.writes ∙ first.own.writes };
     later = later_both (boundaries_of a) (below_of a) (below_of b) (below_of c) first.later
         (subst (λ (n : ℕ). Later rack n (below_of b) (below_of c)) first.boundaries second.later);
     tells = λ q told. first.tells q (second.tells q told);
   }
 
   -- what the rack tells in the end of the first line's members it told before
-  pub told_line : (a b : Running R) → Continues rack a b → TellsLine (stop_words rack) b → TellsLine (stop_words rack) a
+  pub told_line : (a b : Running R) → Continues rack a b → TellsLine (base rack) b → TellsLine (base rack) a
   told_line a b goes tells p low =
-      told_behind rack (below_of a) p (goes.later.told_before p (tells_behind rack (below_of b) p (tells p (subst (λ (n : ℕ). p / 2 < n) (sym goes.boundaries) low))))
+      told_outer rack (below_of a) p (goes.later.told_before p (tells_outer rack (below_of b) p (tells p (subst (λ (n : ℕ). p / 2 < n) (sym goes.boundaries) low))))

@@ -13,14 +13,14 @@ use Rattle.dg_model.specs.declared.events.Event.TheVariants.{Regroup}
 use Rattle.dg_model.specs.declared.replies.Reply.TheVariants.{Regrouped as RegroupedReply, TooFew as TooFewReply, Whole as WholeReply}
 use Rattle.dg_regroup.specs.LiveRacks.{DropsBoundaries, live_count, live_in, named}
 use Rattle.dg_run.proofs.ArraySteps.{steps_of}
+use Rattle.dg_run.proofs.BaseTies.{base_after, base_both, base_none}
 use Rattle.dg_run.proofs.Continuing.{told_mid, told_volume}
 use Rattle.dg_run.proofs.Laters.{continues_by, goes_out, goes_read}
 use Rattle.dg_run.proofs.Happening.{leads_on, runs_of}
+use Rattle.dg_run.specs.Bases.{base}
 use Rattle.dg_run.specs.Histories.{Continues, IsReady, KnownBy, Running, RunsTo, TellsLine, below_of, running, standing_of}
 use Rattle.dg_run.specs.Regroups.{regroup_reply}
 use Rattle.dg_run.specs.Steps.{rack_of}
-use Rattle.dg_stop.specs.StopLaws.{stop_after, stop_both, stop_none}
-use Rattle.dg_stop.specs.StopRacks.{stop_name, stop_words}
 use Rattle.dg_volume.specs.Origins.{WasHeld}
 use Rattle.dg_volume.specs.Regroups.{AnswersRegroup, GoesOn, HasBoundaries, IsRegrouped, told_in}
 use Rattle.dg_volume.specs.Volumes as volumes
@@ -42,7 +42,7 @@ module _ {R : Type 0} (rack : Ghosts R) (none : (s : R) → rack.made s [] s) (b
   pub has_boundaries : (a : Running R) → IsReady rack a
       → ((one other : List ℕ) (n m : ℕ) → All (λ s. s < 16) one → All (λ s. s < 16) other → named n one ≡ named m other → (one ≡ other) × (n ≡ m)) → HasBoundaries (running rack) live_count a.volume
   has_boundaries a ready tell r same =
-      let lists = tell (live_in r) (live_in (rack_of a)) (stop_name rack r.rack) (stop_name rack (below_of a)) r.few (rack_of a).few same in
+      let lists = tell (live_in r) (live_in (rack_of a)) ((base rack).name r.rack) ((base rack).name (below_of a)) r.few (rack_of a).few same in
       omega (arith, ap length lists.0, ready.longer, ready.sound.in_use.number)
 
   pub continues_answer : (a b : Running R) (answer : RegroupAnswer) → IsReady rack a → GoesOn volumes.any_phase (running rack) a.volume b.volume
@@ -56,10 +56,10 @@ module _ {R : Type 0} (rack : Ghosts R) (none : (s : R) → rack.made s [] s) (b
   runs_out a b r c ready hot goes h origin state st =
       let one = h.steps origin state st.volume in
       let on = goes_out rack none both law a b ready goes h.out h.live_is in
-      let known : TellsLine (stop_words rack) b → WasHeld (running rack) origin → WasHeld (running rack) (told_in h.out.mid origin) =
-      λ tells held. (held, told_mid (stop_words rack) (stop_none rack none) (stop_both rack both) (stop_after rack law) a b ready goes h.out h.live_is tells) in
-      let step = step_less (λ (k : KnownBy (WasHeld (running rack) origin) (stop_words rack) b).
-      (told_volume (stop_words rack) (stop_none rack none) (stop_both rack both) (stop_after rack law) b on.on.ready k.0, known k.0 k.1)) state Regroup (RegroupedReply r c) one.0 one.2 in
+      let known : TellsLine (base rack) b → WasHeld (running rack) origin → WasHeld (running rack) (told_in h.out.mid origin) =
+      λ tells held. (held, told_mid (base rack) (base_none rack none) (base_both rack both) (base_after rack law) a b ready goes h.out h.live_is tells) in
+      let step = step_less (λ (k : KnownBy (WasHeld (running rack) origin) (base rack) b).
+      (told_volume (base rack) (base_none rack none) (base_both rack both) (base_after rack law) b on.on.ready k.0, known k.0 k.1)) state Regroup (RegroupedReply r c) one.0 one.2 in
       record {
         after = told_in h.out.mid origin;
         next = one.0;
@@ -69,13 +69,13 @@ module _ {R : Type 0} (rack : Ghosts R) (none : (s : R) → rack.made s [] s) (b
           sized = regroup_sized state r c one.0 one.2.1 st.sized;
         };
         known = known;
-        course = (standing_of b one.0, leads_on rack none both law a b Regroup (RegroupedReply r c) state one.0 on one.1 tt step, refl);
+        course = (standing_of b one.0, leads_on rack none both law a b Regroup (RegroupedReply r c) state one.0 on st.volume one.1 tt step (λ known. tt), refl);
       }
 
   pub runs_answer : (a b : Running R) (answer : RegroupAnswer) → IsReady rack a → b.hot ≡ a.hot → GoesOn volumes.any_phase (running rack) a.volume b.volume
       → AnswersRegroup (running rack) live_count DropsBoundaries a.volume b.volume answer → RunsTo rack a (Regroup ∷ []) (regroup_reply answer ∷ []) b
   runs_answer a b Whole ready hot goes h =
-      runs_of rack none both law a b Regroup WholeReply (goes_read rack none both law (λ bound x y made. made) a b ready h.leaves) tt (steps_of (running rack) a b Regroup WholeReply tt hot h.steps)
+      runs_of rack none both law a b Regroup WholeReply (goes_read rack none both law (λ bound x y made. made) a b ready h.leaves) tt tt (steps_of (running rack) a b Regroup WholeReply tt hot h.steps)
   runs_answer a b TooFew ready hot goes h =
-      runs_of rack none both law a b Regroup TooFewReply (goes_read rack none both law (λ bound x y made. made) a b ready h.leaves) tt (steps_of (running rack) a b Regroup TooFewReply tt hot h.steps)
+      runs_of rack none both law a b Regroup TooFewReply (goes_read rack none both law (λ bound x y made. made) a b ready h.leaves) tt tt (steps_of (running rack) a b Regroup TooFewReply tt hot h.steps)
   runs_answer a b (Regrouped r c) ready hot goes h = runs_out a b r c ready hot goes h

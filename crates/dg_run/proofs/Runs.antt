@@ -10,10 +10,8 @@ use Rattle.dg_regroup.specs.declared.live_racks.LiveRack.{LiveRack}
 use Rattle.dg_model.specs.declared.shapes.Shape.{Shape}
 use Rattle.dg_model.specs.declared.events.Event.{Event}
 use Rattle.dg_model.specs.declared.replies.Reply.{Reply}
-use Rattle.dg_stop.specs.StopCalls.{behind}
-use Rattle.dg_stop.specs.StopRacks.{stop_words}
-use Rattle.dg_stop.specs.Ties.{tells_behind}
-use Rattle.dg_stop.specs.declared.stop_racks.StopRack.{StopRack}
+use Rattle.dg_run.proofs.BaseTies.{tells_outer}
+use Rattle.dg_run.specs.Bases.{Base, base, outer}
 use Rattle.dg_volume.specs.HeldLaws.{own_still}
 use Rattle.dg_volume.specs.Origins.{Origin, WasHeld}
 use Rattle.dg_volume.specs.Volumes.{any_phase}
@@ -53,13 +51,13 @@ goes_none rack a sound = record {
 module _ {R : Type 0} (rack : Ghosts R) where
   -- events led on, and then others
   pub leads_then : (Stands : Type 0 → State → Type 0) (a b c : Running R) (es fs : List Event) (rs ss : List Reply) → RunsTo rack a es rs b
-      → ((origin : Origin (LiveRack (StopRack R))) (state : State) → StandsIn (running rack) (WasHeld (running rack) origin) b state → Leads rack Stands origin state b c fs ss)
-      → (TellsLine (stop_words rack) c → TellsLine (stop_words rack) b)
-      → (origin : Origin (LiveRack (StopRack R))) (state : State) → StandsIn (running rack) (WasHeld (running rack) origin) a state → Leads rack Stands origin state a c (es ++ fs) (rs ++ ss)
+      → ((origin : Origin (LiveRack (Base R))) (state : State) → StandsIn (running rack) (WasHeld (running rack) origin) b state → Leads rack Stands origin state b c fs ss)
+      → (TellsLine (base rack) c → TellsLine (base rack) b)
+      → (origin : Origin (LiveRack (Base R))) (state : State) → StandsIn (running rack) (WasHeld (running rack) origin) a state → Leads rack Stands origin state a c (es ++ fs) (rs ++ ss)
   leads_then Stands a b c es fs rs ss runs more told origin state st =
       let one = runs origin state st in
       let two = more one.after one.next one.stands in
-      let K : Type 0 = KnownBy (WasHeld (running rack) origin) (stop_words rack) c in
+      let K : Type 0 = KnownBy (WasHeld (running rack) origin) (base rack) c in
       record {
         after = two.after;
         next = two.next;
@@ -71,12 +69,12 @@ module _ {R : Type 0} (rack : Ghosts R) where
       }
 
   pub runs_more : (a b c : Running R) (es : List Event) (rs : List Reply) (e : Event) (r : Reply) → RunsTo rack a es rs b → RunsTo rack b (e ∷ []) (r ∷ []) c
-      → (TellsLine (stop_words rack) c → TellsLine (stop_words rack) b) → RunsTo rack a (es ++ e ∷ []) (rs ++ r ∷ []) c
+      → (TellsLine (base rack) c → TellsLine (base rack) b) → RunsTo rack a (es ++ e ∷ []) (rs ++ r ∷ []) c
   runs_more a b c es rs e r runs more told = leads_then (λ P next. StandsIn (running rack) P c next) a b c es (e ∷ []) rs (r ∷ []) runs more told
 
   -- the same where nothing is said of the inodes that were read last
   pub volume_runs_more : (a b c : Running R) (es : List Event) (rs : List Reply) (e : Event) (r : Reply) → RunsTo rack a es rs b → VolumeRunsTo rack b (e ∷ []) (r ∷ []) c
-      → (TellsLine (stop_words rack) c → TellsLine (stop_words rack) b) → VolumeRunsTo rack a (es ++ e ∷ []) (rs ++ r ∷ []) c
+      → (TellsLine (base rack) c → TellsLine (base rack) b) → VolumeRunsTo rack a (es ++ e ∷ []) (rs ++ r ∷ []) c
   volume_runs_more a b c es rs e r runs more told =
       leads_then (λ P next. volumes.StandsIn any_phase (running rack) P c.volume next) a b c es (e ∷ []) rs (r ∷ []) runs more told
 
@@ -85,12 +83,12 @@ module _ {R : Type 0} (rack : Ghosts R) where
   no_runs a origin state st = record { after = origin; next = state; stands = st; known = λ tells held. held; course = refl }
 
   -- what the rack of its boundaries tells of the first line's members that of the run tells
-  told_behind_line : (b : Running R) (state : State) → state.boundaries ≡ boundaries_of b → TellsLine (stop_words rack) b → (q : ℕ) → q / 2 < state.boundaries
-      → rack.tells (behind (below_of b)) q
-  told_behind_line b state line tells q low = tells_behind rack (below_of b) q (tells q (subst (λ (n : ℕ). q / 2 < n) line low))
+  told_outer_line : (b : Running R) (state : State) → state.boundaries ≡ boundaries_of b → TellsLine (base rack) b → (q : ℕ) → q / 2 < state.boundaries
+      → rack.tells (outer (below_of b)) q
+  told_outer_line b state line tells q low = tells_outer rack (below_of b) q (tells q (subst (λ (n : ℕ). q / 2 < n) line low))
 
   -- what the array stands for now isn't told
-  pub runs_before : (a b c : Running R) (es : List Event) (rs : List Reply) → RunsTo rack a es rs b → boundaries_of c ≡ boundaries_of b → (TellsLine (stop_words rack) c → TellsLine (stop_words rack) b)
+  pub runs_before : (a b c : Running R) (es : List Event) (rs : List Reply) → RunsTo rack a es rs b → boundaries_of c ≡ boundaries_of b → (TellsLine (base rack) c → TellsLine (base rack) b)
       → RunsBefore rack a es rs c
   runs_before a b c es rs runs same told origin state st =
       let one = runs origin state st in
@@ -98,14 +96,14 @@ module _ {R : Type 0} (rack : Ghosts R) where
         standing_of b one.next,
         line ∙ sym same,
         course_less rack (λ k. (told k.0, k.1)) (standing_of a state) es rs (standing_of b one.next) one.course,
-        λ tells. told_behind_line b one.next line (told tells),
+        λ tells. told_outer_line b one.next line (told tells),
       )
 
   pub volume_runs_before : (a c : Running R) (es : List Event) (rs : List Reply) → VolumeRunsTo rack a es rs c → RunsBefore rack a es rs c
   volume_runs_before a c es rs runs origin state st =
       let one = runs origin state st in
       let line : one.next.boundaries ≡ boundaries_of c = ap (λ (s : State). s.boundaries) one.stands.is in
-      (standing_of c one.next, line, one.course, told_behind_line c one.next line)
+      (standing_of c one.next, line, one.course, told_outer_line c one.next line)
 
   pub output_more : (rs : List Reply) (r : Reply) (x y z : Option (List ℕ)) → Told (Took (output_of rs)) x y → Told (Took (reply_line r)) y z → Told (Took (output_of (rs ++ r ∷ []))) x z
   output_more rs r x y z p q = Told-then _ _ (Took (output_of (rs ++ r ∷ []))) (λ a b c f s.
@@ -121,7 +119,7 @@ module _ {R : Type 0} (rack : Ghosts R) where
     runs = no_runs store;
   }
 
-  pub served_more : (shape : Shape) (room n : ℕ) (es : List Event) (x y z t u v : Option (List ℕ)) (a b c : Running R) → Served rack shape es x y t u a b → (line : ServedLine rack shape room n y z u v b c) → (TellsLine (stop_words rack) c → TellsLine (stop_words rack) b) → Served rack shape (es ++ line.event ∷ []) x z t v a c
+  pub served_more : (shape : Shape) (room n : ℕ) (es : List Event) (x y z t u v : Option (List ℕ)) (a b c : Running R) → Served rack shape es x y t u a b → (line : ServedLine rack shape room n y z u v b c) → (TellsLine (base rack) c → TellsLine (base rack) b) → Served rack shape (es ++ line.event ∷ []) x z t v a c
   served_more shape room n es x y z t u v a b c was line told = record {
     replies = was.replies ++ line.answered.reply ∷ [];
     in_place = All-append (IsInPlace (Some shape)) es (line.event ∷ []) was.in_place (All-one (IsInPlace (Some shape)) line.event line.in_place);
@@ -141,7 +139,7 @@ module _ {R : Type 0} (rack : Ghosts R) where
   pub so_far_none : (shape : Shape) (first from : ℕ) (left taken : Option (List ℕ)) (store : Running R) → SoFar rack shape first from first from left left taken taken store store
   so_far_none shape first from left taken store = record { events = []; served = served_none rack shape left taken store; passed_is = omega arith; number_is = omega arith }
 
-  pub so_far_more : (shape : Shape) (first from passed number room n : ℕ) (x y z t u v : Option (List ℕ)) (a b c : Running R) → SoFar rack shape first from passed number x y t u a b → ServedLine rack shape room n y z u v b c → (TellsLine (stop_words rack) c → TellsLine (stop_words rack) b)
+  pub so_far_more : (shape : Shape) (first from passed number room n : ℕ) (x y z t u v : Option (List ℕ)) (a b c : Running R) → SoFar rack shape first from passed number x y t u a b → ServedLine rack shape room n y z u v b c → (TellsLine (base rack) c → TellsLine (base rack) b)
       → SoFar rack shape first from (passed + n) (number + 1) x z t v a c
   so_far_more shape first from passed number room n x y z t u v a b c was line told =
       let text : input_of (was.events ++ line.event ∷ []) ≡ input_of was.events ++ line_of line.event = flat_map-append line_of was.events (line.event ∷ []) ∙ ap (λ (l : List ℕ). input_of was.events ++ l) (append-nil (line_of line.event)) in

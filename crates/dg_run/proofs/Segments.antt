@@ -1,5 +1,5 @@
 -- Calls of a rack of boundaries in use, on members of the first so many of them: what they leave of the rack below.
-use Rattle.std.proofs.Common.{◌≡◌, ◌≢◌, ◌⊎◌, ◌∙◌, ◌+◌, ◌*◌, ◌/◌, ◌%◌, ◌<◌, ◌≤◌, ℕ, suc, zero, true, List, [], ◌∷◌, ◌++◌, ap, arith, inl, inr, length, slice_index, refl, subst, sym}
+use Rattle.std.proofs.Common.{◌≡◌, ◌≢◌, ◌⊎◌, ◌∙◌, ◌+◌, ◌*◌, ◌/◌, ◌%◌, ◌<◌, ◌≤◌, ℕ, suc, zero, true, false, List, [], ◌∷◌, ◌++◌, ap, arith, inl, inr, length, slice_index, refl, subst, sym}
 use Rattle.std.specs.Prelude.{All, IsSome, None, Option, Some}
 use Rattle.std.proofs.lemmas.Bool.{cases_order}
 use Rattle.std.proofs.lemmas.Bool.Decides.{nat_tests}
@@ -12,17 +12,22 @@ use Rattle.dg_io.specs.RackCalls.RackCall.{blanks, calls, extends, looks}
 use Rattle.dg_io.specs.RackWords.{After}
 use Rattle.dg_io.specs.Told.{IsSame, StillTold, Told}
 use Rattle.dg_io.specs.declared.outside.Rack.{Ghosts}
-use Rattle.dg_model.specs.Lives.{member_at}
+use Rattle.dg_model.proofs.RegroupLaws.{place_at}
+use Rattle.dg_model.specs.Causes.{Rose}
+use Rattle.dg_model.specs.Lives.{member_at, place_in}
+use Rattle.dg_model.specs.Members.{MembersFall, is_lost}
+use Rattle.dg_model.specs.declared.members.MemberState.{MemberState}
 use Rattle.dg_regroup.specs.LiveGhosts.{live}
 use Rattle.dg_regroup.specs.LiveMade.{call_below, is_passed}
 use Rattle.dg_regroup.specs.LivePassing.{own_calls, own_writes, passes_on}
 use Rattle.dg_regroup.specs.LiveRacks.{is_there, live_in, rack_in}
 use Rattle.dg_regroup.specs.declared.live_racks.LiveRack.{LiveRack}
+use Rattle.dg_run.proofs.TakenOut.{lost_failed}
 use Rattle.dg_store.specs.Leaves.{IsAnyCallBelow, IsCallBelow, IsCallOrBlankBelow, IsCallOrExtendBelow}
 use Rattle.dg_store.specs.ReadLaws.{any_of_blank, any_of_call, any_of_extend}
 
 -- a number stands in a list, or nowhere
-find_number : (numbers : List ℕ) (s : ℕ) → ((x : ℕ) × (x < length numbers) × (slice_index numbers x ≡ s)) ⊎ ((x : ℕ) → x < length numbers → slice_index numbers x ≢ s)
+pub find_number : (numbers : List ℕ) (s : ℕ) → ((x : ℕ) × (x < length numbers) × (slice_index numbers x ≡ s)) ⊎ ((x : ℕ) → x < length numbers → slice_index numbers x ≢ s)
 find_number [] s = inr (λ x low. absurd (omega (arith, low)))
 find_number (n ∷ rest) s = first (cases_order n s) (find_number rest s) where
   first : (n ≡ s) ⊎ ((n < s) ⊎ (s < n)) → ((x : ℕ) × (x < length rest) × (slice_index rest x ≡ s)) ⊎ ((x : ℕ) → x < length rest → slice_index rest x ≢ s)
@@ -138,6 +143,26 @@ module _ {R : Type 0} (rack : Ghosts R) (none : (s : R) → rack.made s [] s) (b
   -- the bytes of a member below, by its place
   pub by_place : (z : LiveRack R) (q p : ℕ) → is_there (live_in z) q ≡ true → p ≡ member_at (live_in z) q → (live rack).bytes z q ≡ rack.bytes (rack_in z) p
   by_place z q p here same = rw (here, same) refl
+
+  -- and its count of faults
+  faults_by_place : (z : LiveRack R) (q p : ℕ) → is_there (live_in z) q ≡ true → p ≡ member_at (live_in z) q → ((live rack).counts z).faults q ≡ (rack.counts (rack_in z)).faults p
+  faults_by_place z q p here same = rw (here, same) refl
+
+  -- Where members fell and by that a boundary is lost, the count of one of its members rose below.
+  pub failed_below : (numbers : List ℕ) (x y : LiveRack R) → Begins numbers x → live_in y ≡ live_in x → (old new : ℕ → MemberState)
+      → MembersFall ((live rack).counts x).faults ((live rack).counts y).faults old new → (s : ℕ) → place_in numbers s < length numbers → is_lost old (place_in numbers s) ≡ false
+      → is_lost new (place_in numbers s) ≡ true → (p : ℕ) × (p / 2 ≡ s) × Rose ((rack.counts (rack_in x)).faults p) ((rack.counts (rack_in y)).faults p)
+  failed_below numbers x y begins same old new falls s within stood lost =
+      let found = lost_failed ((live rack).counts x).faults ((live rack).counts y).faults old new falls (place_in numbers s) stood lost in
+      let q : ℕ = found.0 in
+      let p : ℕ = 2 * s + q % 2 in
+      let low : q / 2 < length numbers = omega (arith, found.1, within) in
+      let number : slice_index numbers (q / 2) ≡ s = ap (λ (i : ℕ). slice_index numbers i) found.1 ∙ place_at numbers s within in
+      let here : is_there (live_in x) q ≡ true = there_by (live_in x) q (omega (arith, low, begins.longer)) in
+      let at : p ≡ member_at (live_in x) q = ap (λ (n : ℕ). 2 * n + q % 2) (sym (begins.places (q / 2) low ∙ number)) in
+      let first = faults_by_place x q p here at in
+      let second = faults_by_place y q p (subst (λ (l : List ℕ). is_there l q ≡ true) (sym same) here) (at ∙ ap (λ (l : List ℕ). member_at l q) (sym same)) in
+      (p, half s q, subst (λ (n : ℕ). Rose n ((rack.counts (rack_in y)).faults p)) first (subst (λ (n : ℕ). Rose (((live rack).counts x).faults q) n) second found.2))
 
   tells_below : (numbers : List ℕ) (x y : LiveRack R) → Begins numbers x → live_in y ≡ live_in x → Makes rack (IsCallAmong numbers) (rack_in x) (rack_in y)
       → StillTold ((live rack).bytes x) ((live rack).bytes y) → StillTold (rack.bytes (rack_in x)) (rack.bytes (rack_in y))

@@ -8,14 +8,15 @@ use Rattle.dg_io.specs.declared.outside.Rack.{Ghosts}
 use Rattle.dg_model.specs.declared.events.Event.{Event}
 use Rattle.dg_model.specs.declared.replies.Reply.{Reply}
 use Rattle.dg_run.proofs.Answers.{at_err, event_done_by, event_part_by}
+use Rattle.dg_run.proofs.Checkpoints.{GoesKeeping}
 use Rattle.dg_run.proofs.Happening.{event_answered, event_cut, event_wanted, weaker_runs}
 use Rattle.dg_run.proofs.Laters.{GoesBy}
+use Rattle.dg_run.specs.Bases.{base_room}
 use Rattle.dg_run.specs.Histories.{Continues, EventAnswered, EventCut, EventWanted, Running, RunsTo, below_of, running}
 use Rattle.dg_run.specs.Plain.{IsOfPairs}
 use Rattle.dg_run.specs.Steps.{Answered, AnsweredPart, WantedFor}
 use Rattle.dg_run.specs.declared.events.Fault.{Fault}
 use Rattle.dg_run.specs.declared.events.Fault.TheVariants.{NoMemory, Write}
-use Rattle.dg_stop.specs.StopRacks.{stop_room}
 use Rattle.dg_text.specs.Replies.{reply_line}
 
 -- where a call ended so, that left the sink and the array of the boundaries in use so
@@ -29,14 +30,14 @@ module _ {R : Type 0} (rack : Ghosts R) (none : (s : R) → rack.made s [] s) (b
     (law : (a b : R) (made : List RackCall) → rack.made a made b → After rack made a b) where
   -- as the call says it of any array, whose rack has no disks
   pub serves : {T : Type 0} {e : Event} (event : Event) (taken given : Option (List ℕ)) (a b : Running R) (result : Result T Fault) → e ≡ event → GoesBy rack event a b
-      → ((reply : Reply) → IsOfPairs a event reply (stop_room (below_of a))) → OnOk result (Answered (running rack) event taken given a b)
+      → ((reply : Reply) → IsOfPairs a event reply (base_room (below_of a))) → ((reply : Reply) → GoesKeeping rack event reply a b) → OnOk result (Answered (running rack) event taken given a b)
       → (result ≡ Err Write → AnsweredPart (running rack) event taken given a b) → (result ≡ Err NoMemory → WantedFor (running rack) event taken given a b)
       → Serves rack e taken given a b result
-  serves event taken given a b result is goes pairs answered part wanting = record {
+  serves event taken given a b result is goes pairs keeps answered part wanting = record {
     goes = goes.on;
-    answered = rw is (event_answered rack none both law event taken given a b goes pairs result answered);
-    part = λ fault. rw is (event_cut rack none both law event taken given a b goes pairs (part fault));
-    wanting = λ fault. rw is (event_wanted rack none both law event taken given a b goes pairs (wanting fault));
+    answered = rw is (event_answered rack none both law event taken given a b goes pairs keeps result answered);
+    part = λ fault. rw is (event_cut rack none both law event taken given a b goes pairs keeps (part fault));
+    wanting = λ fault. rw is (event_wanted rack none both law event taken given a b goes pairs keeps (wanting fault));
   }
 
   -- by one reply, which was known before it was written

@@ -1,34 +1,24 @@
 -- A whole replay.
-use Rattle.std.proofs.Common.{◌≡◌, ◌≤◌, ◌<◌, ◌+◌, ◌-◌, ◌/◌, ◌^◌, ℕ, List, [], ◌∷◌, ◌++◌, length, refl, sym, ◌∙◌, ap, subst, arith, append_assoc, inr, length-append}
+use Rattle.std.proofs.Common.{◌≡◌, ◌≤◌, ◌<◌, ◌+◌, ◌-◌, ◌^◌, ℕ, List, [], ◌∷◌, ◌++◌, length, refl, sym, ◌∙◌, ap, subst, arith, append_assoc, inr, length-append}
 use Rattle.std.specs.Prelude.{false, Option, Some, None, All, Result, Ok, Err, IfOk, IsSome}
 use Rattle.std.proofs.lemmas.List.{append_cancel_left}
 use Rattle.std.proofs.lemmas.List.Concat.{flat_map-append}
-use Rattle.dg_model.specs.Shapes.{IsShape}
-use Rattle.dg_model.specs.Moments.{HistoryOf, Makes, Moment}
-use Rattle.dg_model.specs.Moments.Kind.{plain}
-use Rattle.dg_model.specs.States.{Counts, State, plain_state}
-use Rattle.dg_io.specs.MakesLaws.{makes_such}
+use Rattle.dg_model.specs.Moments.{Moment}
+use Rattle.dg_model.specs.States.{Counts, plain_state}
 use Rattle.dg_io.specs.RackCalls.{RackCall}
 use Rattle.dg_io.specs.RackWords.{After}
 use Rattle.dg_io.specs.declared.outside.Rack.{Ghosts}
-use Rattle.dg_run.proofs.Happening.{course_less, history_of, holds_in_use, weaker_runs}
-use Rattle.dg_run.proofs.Laters.{later_both, later_made}
-use Rattle.dg_run.specs.Histories.{Continues, IsBlankReady, KnownBy, Later, Running, RunsBefore, VolumeRunsTo, below_of, boundaries_of, on_pairs, standing_of}
+use Rattle.dg_run.proofs.Happening.{weaker_runs}
+use Rattle.dg_run.specs.Histories.{Running, VolumeRunsTo}
 use Rattle.dg_run.specs.Steps.{shape_of}
-use Rattle.dg_store.specs.Leaves.{IsAnyCallBelow, IsCallOrBlankBelow}
-use Rattle.dg_store.specs.ReadLaws.{any_of_blank}
 use Rattle.dg_model.specs.declared.shapes.Shape.{Shape}
 use Rattle.dg_model.specs.declared.events.Event.{Event}
-use Rattle.dg_model.specs.declared.events.Event.TheVariants.{Array as MakeArray}
+use Rattle.dg_model.specs.declared.events.Event.TheVariants.{Array as MakeArray, Safe}
 use Rattle.dg_model.specs.declared.replies.Reply.{Reply}
 use Rattle.dg_model.specs.declared.replies.Reply.TheVariants.{Done}
 use Rattle.dg_model.specs.declared.members.MemberState.TheVariants.{Out}
 use Rattle.dg_io.specs.MadeLaws.{same_told}
 use Rattle.dg_io.specs.Told.{Told, Took, TookPart}
-use Rattle.dg_stop.specs.StopCalls.{behind}
-use Rattle.dg_stop.specs.StopRacks.{stop_words}
-use Rattle.dg_stop.specs.Ties.{plain_bytes, plain_counts, plain_rise, told_behind}
-use Rattle.dg_stop.specs.declared.stop_racks.StopRack.TheVariants.{Plain}
 use Rattle.dg_text.specs.Lines.{AreInPlace, line_of, input_of, IsInPlace}
 use Rattle.dg_text.specs.Replies.{reply_line, output_of, refusal}
 use Rattle.dg_text.specs.declared.lines.BadLine.{BadLine as Kind}
@@ -37,11 +27,9 @@ use Rattle.dg_run.specs.Events.{Begins, IsRefused}
 use Rattle.dg_run.specs.Lines.{Served, ServedTo}
 use Rattle.dg_run.specs.Endings.{TookUpTo}
 use Rattle.dg_run.specs.Refusals.{IsRefusedBy}
-use Rattle.dg_run.specs.Replays.{CutRefusalBy, HoldsInUse, IsCut, IsNoInput, OthersKept, Ran, ReplayedBy, Stopped, StoppedBy, StopsAt, TellsBoundaries, shape_after}
+use Rattle.dg_run.specs.Replays.{CutRefusalBy, IsCut, IsNoInput, Ran, ReplayedBy, Stopped, StoppedBy, StopsAt, shape_after}
 use Rattle.dg_run.specs.Arrays.{AllAnswered, AnsweredTo, ArrayReplayed, ArrayStopped, IsCutAt}
 use Rattle.dg_run.proofs.Inputs.{All-head, All-right, no_line}
-use Rattle.dg_volume.specs.Origins.{Always}
-use Rattle.dg_volume.specs.Origins.Origin.{nothing}
 use Rattle.std.specs.Option.{option_map}
 use Rattle.dg_run.proofs.Refusing.{empty_cut}
 use Rattle.dg_run.proofs.ToldSteps.{Told-each, Told-then}
@@ -65,7 +53,8 @@ pub record Meant {R : Type 0} (ghosts : Ghosts R) (Means : List Event → List R
 first_in_place : (event : Event) (events : List Event) → AreInPlace (event ∷ events)
     → IsInPlace None event × ((shape : Shape) × (shape_after (event ∷ events) ≡ Some shape) × All (IsInPlace (Some shape)) events)
 first_in_place (MakeArray s) events placed = (placed.0, (s, refl, placed.1))
-first_in_place event events placed = absurd placed
+first_in_place (Safe s) events placed = (placed.0, (s, refl, placed.1))
+first_in_place event events placed = absurd placed.0
 
 module _ {R : Type 0} (ghosts : Ghosts R) (none : (s : R) → ghosts.made s [] s)
     (both : (a b c : R) (x y : List RackCall) → ghosts.made a x b → ghosts.made b y c → ghosts.made a (x ++ y) c) (law : (a b : R) (made : List RackCall) → ghosts.made a made b → After ghosts made a b)
@@ -171,91 +160,7 @@ module _ (Means : List Event → List Reply → Type 0) (make : Event) (shape : 
     output = subst (λ (n : ℕ). Told (Took (output_of (Done ∷ rest.replies) ++ refusal n rest.kind)) t v) (omega arith) rest.output;
   }
 
--- ---- an array over a plain rack
-
-module _ {R : Type 0} (ghosts : Ghosts R) (none : (s : R) → ghosts.made s [] s)
-    (both : (a b c : R) (x y : List RackCall) → ghosts.made a x b → ghosts.made b y c → ghosts.made a (x ++ y) c) (law : (a b : R) (made : List RackCall) → ghosts.made a made b → After ghosts made a b)
-    (shape : Shape) (first : ℕ) (rack : R) (a b : Running R) (is : first ≡ length (line_of (MakeArray shape))) (well : IsShape shape)
-    (blank : IsBlankReady ghosts shape (Plain rack) a) (goes : Continues ghosts a b) where
-  -- what became of the rack in the first line, and from then on
-  later_first : Later ghosts shape.b (Plain rack) (below_of a)
-  later_first = later_made ghosts none both law shape.b (Plain rack) (below_of a)
-      (makes_such (stop_words ghosts) (IsCallOrBlankBelow shape.b) (IsAnyCallBelow shape.b) (any_of_blank shape.b) (Plain rack) (below_of a) blank.made)
-
-  pub later_all : Later ghosts shape.b (Plain rack) (below_of b)
-  later_all = later_both ghosts none both law shape.b (Plain rack) (below_of a) (below_of b) later_first
-      (subst (λ (n : ℕ). Later ghosts n (below_of a) (below_of b)) blank.boundaries goes.later)
-
-  -- the members behind the first line's boundaries were left alone
-  others_kept : OthersKept (boundaries_of b) (ghosts.counts rack) (ghosts.counts (behind (below_of b))) (ghosts.bytes rack) (ghosts.bytes (behind (below_of b)))
-  others_kept =
-      let line : boundaries_of b ≡ shape.b = goes.boundaries ∙ blank.boundaries in
-      record {
-        held = λ q past. (later_all.others q (subst (λ (n : ℕ). n ≤ q / 2) line past) refl).0.bytes;
-        faults = λ q past. (later_all.others q (subst (λ (n : ℕ). n ≤ q / 2) line past) refl).0.faults;
-      }
-
-  -- events behind the first line are in their places from there on, and keep to the budget
-  pub all_in_place : (events : List Event) → All (IsInPlace (Some (shape_of a))) events → AreInPlace (MakeArray shape ∷ events)
-  all_in_place events placed = (well, subst (λ (s : Shape). All (IsInPlace (Some s)) events) blank.shape_is placed)
-
-  pub all_in_budget : (events : List Event) → first + length (input_of events) ≤ 2 ^ 40 → length (input_of (MakeArray shape ∷ events)) ≤ 2 ^ 40
-  all_in_budget events budget = omega (arith, is, budget, length-append (line_of (MakeArray shape)) (input_of events))
-
-  -- what is known of a final state
-  told_in : (final : State) → final.boundaries ≡ boundaries_of b → TellsBoundaries (ghosts.tells (behind (below_of b))) final → KnownBy Always (stop_words ghosts) b
-  told_in final line told = ((λ q below. told_behind ghosts (below_of b) q (told q (subst (λ (n : ℕ). q / 2 < n) (sym line) below))), tt)
-
-  -- the blank array
-  makes : (K : Type 0) → Makes K plain (MakeArray shape) shape (ghosts.counts rack) (on_pairs ghosts (standing_of a blank.state))
-  makes K = record {
-    first = blank.first;
-    is_blank = blank.is_blank;
-    begun = λ same. blank.begun;
-    rise = plain_rise ghosts (Plain rack) (below_of a) refl later_first.room later_first.rise;
-    tied = blank.tied;
-  }
-
-  -- the history of a run, of which it isn't told what the array stands for now
-  pub led_of : (events : List Event) (replies : List Reply) → RunsBefore ghosts a events replies b
-      → (final : Moment) × HistoryOf (TellsBoundaries (ghosts.tells (behind (below_of b))) final.state) (ghosts.counts rack) (MakeArray shape ∷ events) (Done ∷ replies) final
-  led_of events replies runs =
-      let W = runs nothing blank.state blank.stands in
-      let start = standing_of a blank.state in (
-        on_pairs ghosts W.0,
-        (
-          on_pairs ghosts start,
-          makes _,
-          history_of ghosts none both law _ start events replies W.0 later_first.room (course_less ghosts (told_in W.0.state W.1) start events replies W.0 W.2),
-        ),
-      )
-
-  pub ran_of : (events : List Event) (replies : List Reply) → VolumeRunsTo ghosts a events replies b → All (IsInPlace (Some (shape_of a))) events → first + length (input_of events) ≤ 2 ^ 40
-      → Ran (ghosts.counts rack) (ghosts.counts (behind (below_of b))) (ghosts.bytes rack) (ghosts.bytes (behind (below_of b))) (ghosts.tells (behind (below_of b))) (MakeArray shape ∷ events)
-      (Done ∷ replies)
-  ran_of events replies runs placed budget =
-      let W = runs nothing blank.state blank.stands in
-      let start = standing_of a blank.state in
-      let final = standing_of b W.next in
-      let line : W.next.boundaries ≡ boundaries_of b = ap (λ (s : State). s.boundaries) W.stands.is in
-      record {
-        in_place = all_in_place events placed;
-        budget = all_in_budget events budget;
-        final = on_pairs ghosts final;
-        history = (
-          on_pairs ghosts start,
-          makes _,
-          history_of ghosts none both law _ start events replies final later_first.room (course_less ghosts (told_in W.next line) start events replies final W.course),
-        );
-        holds = λ told. subst (λ (bytes : ℕ → Option (List ℕ)). HoldsInUse bytes W.next) (plain_bytes ghosts (below_of b) later_all.room)
-            (holds_in_use ghosts none both law b W.next goes.ready W.stands (let k = told_in W.next line told in (k.0, W.known k.0 k.1)));
-        others = subst (λ (n : ℕ). OthersKept n (ghosts.counts rack) (ghosts.counts (behind (below_of b))) (ghosts.bytes rack) (ghosts.bytes (behind (below_of b)))) (sym line) others_kept;
-        counts = plain_counts ghosts (below_of b) later_all.room;
-      }
-
-  pub meant : Meant ghosts (Ran (ghosts.counts rack) (ghosts.counts (behind (below_of b))) (ghosts.bytes rack) (ghosts.bytes (behind (below_of b))) (ghosts.tells (behind (below_of b))))
-      (MakeArray shape) shape first a b
-  meant = record { size = is; shape_is = blank.shape_is; makes = λ events. refl; runs = ran_of }
+-- ---- nothing was done
 
 unmade : Counts → Moment
 unmade now = record {
@@ -279,14 +184,14 @@ first_stops : (kind : Kind) (text : List ℕ) → IsNoFirst kind text → StopsA
 first_stops kind text first = record { by_kind = first.by_kind; some = λ e. refl; none = first.none }
 
 -- nothing was done
-pub ran_nothing : (now : Counts) (bytes : ℕ → Option (List ℕ)) (tells : ℕ → Type 0) → Ran now now bytes bytes tells [] []
+pub ran_nothing : (now : Counts) (bytes : ℕ → Option (List ℕ)) (steady : Type 0) (tells : ℕ → Type 0) → Ran now now bytes bytes steady tells [] []
 unfolding unmade
-ran_nothing now bytes tells = record {
+ran_nothing now bytes steady tells = record {
   in_place = tt;
   budget = omega arith;
   final = unmade now;
   history = (record { is = refl; boundaries = refl; size = refl; rows = refl }, refl);
-  holds = λ told. record {
+  holds = λ keeps told. record {
     seen = bytes;
     at = λ q low. absurd (omega (arith, low));
     whole = λ all q low. refl;
@@ -297,28 +202,29 @@ ran_nothing now bytes tells = record {
       fresh = λ q below. absurd (omega arith);
     };
   };
+  kept = λ keeps. absurd (keeps tt);
   others = record { held = λ q past. same_told (bytes q); faults = λ q past. refl };
   counts = refl;
 }
 
 -- the first line is refused, or there is none
-pub stopped_first : (now : Counts) (bytes : ℕ → Option (List ℕ)) (tells : ℕ → Type 0) (kind : Kind) (x z t v : Option (List ℕ)) → Told (λ before after. IsNoFirst kind before) x z → Told (Took (refusal 1 kind)) t v → Stopped now now bytes bytes tells x z t v
-stopped_first now bytes tells kind x z t v refused output = record {
+pub stopped_first : (now : Counts) (bytes : ℕ → Option (List ℕ)) (steady : Type 0) (tells : ℕ → Type 0) (kind : Kind) (x z t v : Option (List ℕ)) → Told (λ before after. IsNoFirst kind before) x z → Told (Took (refusal 1 kind)) t v → Stopped now now bytes bytes steady tells x z t v
+stopped_first now bytes steady tells kind x z t v refused output = record {
   events = [];
   replies = [];
   kind = kind;
-  ran = ran_nothing now bytes tells;
+  ran = ran_nothing now bytes steady tells;
   input = Told-each _ _ (λ a b first. (a, refl, first_stops kind a first, first_no_input kind a first)) x z refused;
   output = output;
 }
 
 -- the same, but its refusal was written in part
-pub cut_first : (now : Counts) (bytes : ℕ → Option (List ℕ)) (tells : ℕ → Type 0) (kind : Kind) (x z t v : Option (List ℕ)) → Told (λ before after. IsNoFirst kind before) x z → Told (TookPart (refusal 1 kind)) t v → CutRefusalBy (Ran now now bytes bytes tells) x z t v
-cut_first now bytes tells kind x z t v refused output = record {
+pub cut_first : (now : Counts) (bytes : ℕ → Option (List ℕ)) (steady : Type 0) (tells : ℕ → Type 0) (kind : Kind) (x z t v : Option (List ℕ)) → Told (λ before after. IsNoFirst kind before) x z → Told (TookPart (refusal 1 kind)) t v → CutRefusalBy (Ran now now bytes bytes steady tells) x z t v
+cut_first now bytes steady tells kind x z t v refused output = record {
   events = [];
   replies = [];
   kind = kind;
-  ran = ran_nothing now bytes tells;
+  ran = ran_nothing now bytes steady tells;
   input = Told-each _ _ (λ a b first. (a, refl, first_stops kind a first)) x z refused;
   output = Told-each (TookPart (refusal 1 kind)) (TookUpTo [] (refusal 1 kind)) (λ p q s. record { n = s.0; is = s.1 }) t v output;
 }
@@ -387,18 +293,18 @@ module _ (unread kept : List ℕ) (fresh : unread ≡ []) (left rest taken given
   first_empty : Told (λ b a. (b ≡ []) × (a ≡ [])) (option_map (λ more. unread ++ more) left) (option_map (λ more. kept ++ more) rest) → Told (λ b a. IsNoFirst Cut b) left rest
   first_empty empty = rest_told (IsNoFirst Cut) kept left rest (fresh_told (λ b a. IsNoFirst Cut b) unread left _ fresh (none_at_all _ _ empty))
 
-  module _ (before : Counts) (bytes : ℕ → Option (List ℕ)) (tells : ℕ → Type 0) where
-    pub replay_refused : (kind : Kind) → Told (λ b a. IsRefused None (2 ^ 40) b kind) (option_map (λ more. unread ++ more) left) (option_map (λ more. kept ++ more) rest) → Told (Took (refusal 1 kind)) taken given → Stopped before before bytes bytes tells left rest taken given
-    replay_refused kind refused output = stopped_first before bytes tells kind left rest taken given (first_refused kind refused) output
+  module _ (before : Counts) (bytes : ℕ → Option (List ℕ)) (steady : Type 0) (tells : ℕ → Type 0) where
+    pub replay_refused : (kind : Kind) → Told (λ b a. IsRefused None (2 ^ 40) b kind) (option_map (λ more. unread ++ more) left) (option_map (λ more. kept ++ more) rest) → Told (Took (refusal 1 kind)) taken given → Stopped before before bytes bytes steady tells left rest taken given
+    replay_refused kind refused output = stopped_first before bytes steady tells kind left rest taken given (first_refused kind refused) output
 
-    pub replay_empty : Told (λ b a. (b ≡ []) × (a ≡ [])) (option_map (λ more. unread ++ more) left) (option_map (λ more. kept ++ more) rest) → Told (Took (refusal 1 Cut)) taken given → Stopped before before bytes bytes tells left rest taken given
-    replay_empty empty output = stopped_first before bytes tells Cut left rest taken given (first_empty empty) output
+    pub replay_empty : Told (λ b a. (b ≡ []) × (a ≡ [])) (option_map (λ more. unread ++ more) left) (option_map (λ more. kept ++ more) rest) → Told (Took (refusal 1 Cut)) taken given → Stopped before before bytes bytes steady tells left rest taken given
+    replay_empty empty output = stopped_first before bytes steady tells Cut left rest taken given (first_empty empty) output
 
-    pub refused_part : (kind : Kind) → Told (λ b a. IsRefused None (2 ^ 40) b kind) (option_map (λ more. unread ++ more) left) (option_map (λ more. kept ++ more) rest) → Told (TookPart (refusal 1 kind)) taken given → IsCut before before bytes bytes tells left rest taken given
-    refused_part kind refused output = inr (cut_first before bytes tells kind left rest taken given (first_refused kind refused) output)
+    pub refused_part : (kind : Kind) → Told (λ b a. IsRefused None (2 ^ 40) b kind) (option_map (λ more. unread ++ more) left) (option_map (λ more. kept ++ more) rest) → Told (TookPart (refusal 1 kind)) taken given → IsCut before before bytes bytes steady tells left rest taken given
+    refused_part kind refused output = inr (cut_first before bytes steady tells kind left rest taken given (first_refused kind refused) output)
 
-    pub empty_part : Told (λ b a. (b ≡ []) × (a ≡ [])) (option_map (λ more. unread ++ more) left) (option_map (λ more. kept ++ more) rest) → Told (TookPart (refusal 1 Cut)) taken given → IsCut before before bytes bytes tells left rest taken given
-    empty_part empty output = inr (cut_first before bytes tells Cut left rest taken given (first_empty empty) output)
+    pub empty_part : Told (λ b a. (b ≡ []) × (a ≡ [])) (option_map (λ more. unread ++ more) left) (option_map (λ more. kept ++ more) rest) → Told (TookPart (refusal 1 Cut)) taken given → IsCut before before bytes bytes steady tells left rest taken given
+    empty_part empty output = inr (cut_first before bytes steady tells Cut left rest taken given (first_empty empty) output)
 
 pub IfOk-map : {T E : Type 0} (result : Result T E) (P Q : T → Type 0) → ((x : T) → P x → Q x) → IfOk result P → IfOk result Q
 IfOk-map (Ok x) P Q h p = h x p

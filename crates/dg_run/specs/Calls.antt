@@ -1,5 +1,5 @@
 -- What a call of the program met outside.
-use Rattle.std.specs.Prelude.{ℕ, List, Option}
+use Rattle.std.specs.Prelude.{ℕ, List, [], None, Option}
 use Rattle.dg_drill.specs.Calls as drills
 use Rattle.dg_io.specs.declared.outside.Rack as racks
 use Rattle.dg_io.specs.declared.outside.Sink as sinks
@@ -34,15 +34,30 @@ facts_of in_ghosts out_ghosts rack source source_now sink sink_now old new = rec
 
 -- ---- what a crate below met of it
 
--- a command on a saved array: the sink and the rack
+-- a command on a saved array that keeps nothing beside its state: the sink and the rack
 abbrev pub met_by : Facts → commands.Facts
 met_by facts = record {
   before = facts.before;
   now = facts.now;
   images = facts.images;
   bytes = facts.bytes;
+  extra = [];
+  room = None;
   taken = facts.taken;
   given = facts.given;
+}
+
+-- where no source is at hand
+abbrev pub rack_met : {K R : Type 0} → sinks.Ghosts K → racks.Ghosts R → K → K → R → R → commands.Facts
+rack_met out_ghosts rack sink sink_now old new = record {
+  before = rack.counts old;
+  now = rack.counts new;
+  images = rack.bytes old;
+  bytes = rack.bytes new;
+  extra = [];
+  room = None;
+  taken = out_ghosts.taken sink;
+  given = out_ghosts.taken sink_now;
 }
 
 -- a trace that is made of an image: the source and the sink

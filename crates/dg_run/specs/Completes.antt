@@ -4,10 +4,12 @@ use Rattle.dg_model.specs.States.{Counts}
 use Rattle.dg_model.specs.declared.events.Event.{Event}
 use Rattle.dg_run.specs.Calls.{Facts, met_by, streams_of}
 use Rattle.dg_run.specs.Ends.{asked_by}
+use Rattle.dg_run.specs.Finds.{Sees}
 use Rattle.dg_run.specs.Replays.{IsInput}
 use Rattle.dg_run.specs.Resumes.{AreLines}
 use Rattle.dg_run.specs.declared.top.Status.{Status}
 use Rattle.dg_run.specs.declared.top.Status.TheVariants.{Done, NoMemory, NoState, Refused, Unclean}
+use Rattle.dg_saved.specs.Calls as commands
 use Rattle.dg_saved.specs.Saved.{HasSource}
 use Rattle.dg_text.specs.Lines.{input_of}
 use Rattle.dg_trace.specs.Answers.{IsAnswer}
@@ -31,9 +33,10 @@ abbrev pub CompletesReplay : Facts → Status → Type 0
 CompletesReplay facts status = (events : List Event) → IsInput events → IsText facts.left facts.rest (input_of events) → (status ≡ Done) ⊎ (status ≡ NoMemory)
 
 -- so are lines that are acceptable on whichever array was opened
-abbrev pub CompletesResume : Facts → Status → Type 0
-CompletesResume facts status = (events : List Event)
+abbrev pub CompletesResume : (ℕ → Type 0) → Facts → Status → Type 0
+CompletesResume tells facts status = (events : List Event)
     → ((opened : Counts) (source : HasSource (met_by facts) opened) → AreLines source.saved.table.shape events)
+    → ((seen : commands.Facts) → Sees tells (met_by facts) seen → (opened : Counts) (source : HasSource seen opened) → AreLines source.saved.table.shape events)
     → IsText facts.left facts.rest (input_of events) → (status ≡ Done) ⊎ (IsUnopened status ⊎ (status ≡ NoMemory))
 
 -- the status by the answer to an image
@@ -47,12 +50,12 @@ CompletesTrace facts asked status = (image : List ℕ) (answer : Result Geometry
     → IsAnswer asked image answer → (status ≡ answer_status answer) ⊎ (status ≡ NoMemory)
 
 -- By the command. Which of several statuses it is, and why, its rules say (`Ends`).
-abbrev pub Completes : Facts → Command → Status → Type 0
-Completes facts Replay status = CompletesReplay facts status
-Completes facts Resume status = CompletesResume facts status
-Completes facts (Cat path) status = (status ≡ Done) ⊎ ((status ≡ Refused) ⊎ (IsUnopened status ⊎ (status ≡ NoMemory)))
-Completes facts (Ls path) status = (status ≡ Done) ⊎ ((status ≡ Refused) ⊎ (IsUnopened status ⊎ (status ≡ NoMemory)))
-Completes facts StatusCommand status = (status ≡ Done) ⊎ (IsUnopened status ⊎ (status ≡ NoMemory))
-Completes facts (Trace order b k m) status = CompletesTrace (streams_of facts) (asked_by order b k m) status
-Completes facts (Drill seed files) status = (status ≡ Done) ⊎ (status ≡ NoMemory)
-Completes facts Audit status = (status ≡ Done) ⊎ ((status ≡ Refused) ⊎ (status ≡ NoMemory))
+abbrev pub Completes : (ℕ → Type 0) → Facts → Command → Status → Type 0
+Completes tells facts Replay status = CompletesReplay facts status
+Completes tells facts Resume status = CompletesResume tells facts status
+Completes tells facts (Cat path) status = (status ≡ Done) ⊎ ((status ≡ Refused) ⊎ (IsUnopened status ⊎ (status ≡ NoMemory)))
+Completes tells facts (Ls path) status = (status ≡ Done) ⊎ ((status ≡ Refused) ⊎ (IsUnopened status ⊎ (status ≡ NoMemory)))
+Completes tells facts StatusCommand status = (status ≡ Done) ⊎ (IsUnopened status ⊎ (status ≡ NoMemory))
+Completes tells facts (Trace order b k m) status = CompletesTrace (streams_of facts) (asked_by order b k m) status
+Completes tells facts (Drill seed files) status = (status ≡ Done) ⊎ (status ≡ NoMemory)
+Completes tells facts Audit status = (status ≡ Done) ⊎ ((status ≡ Refused) ⊎ (status ≡ NoMemory))

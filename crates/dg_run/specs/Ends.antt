@@ -6,9 +6,11 @@ use Rattle.dg_drill.specs.declared.drills.DrillEnd.{DrillEnd}
 use Rattle.dg_drill.specs.declared.drills.DrillEnd.TheVariants.{Done as Drilled, WriteFault as DrillCut}
 use Rattle.dg_run.specs.Calls.{Facts, drill_met, met_by, streams_of}
 use Rattle.dg_run.specs.Replays.{BrokeOff, IsCut, RanOut, Replayed, Stopped}
-use Rattle.dg_run.specs.Resumes.{EndsResume}
+use Rattle.dg_run.specs.Finds.{Finds}
+use Rattle.dg_run.specs.Resumes.{EndsResumed}
 use Rattle.dg_run.specs.declared.top.Status.{Status}
 use Rattle.dg_run.specs.declared.top.Status.TheVariants.{Done, Usage, BadLine, ReadFault, WriteFault, NoMemory, NoState, Unclean, Refused}
+use Rattle.dg_saved.specs.Calls as commands
 use Rattle.dg_saved.specs.Ends.{EndsCat, EndsLs, EndsStatus}
 use Rattle.dg_saved.specs.declared.ends.SavedEnd.{SavedEnd}
 use Rattle.dg_saved.specs.declared.ends.SavedEnd.TheVariants.{Done as SavedDone, NoState as SavedNoState, Refused as SavedRefused, Unclean as SavedUnclean, WriteFault as SavedWriteFault}
@@ -37,15 +39,26 @@ EndsUsage facts NoMemory = facts.given ≡ facts.taken
 EndsUsage facts status = ⊥
 
 -- a replay: all lines were done, or those before one that is refused, or before a fault
-abbrev pub EndsReplay : (ℕ → Type 0) → Facts → Status → Type 0
-EndsReplay tells facts Done = Replayed facts.before facts.now facts.images facts.bytes tells facts.left facts.rest facts.taken facts.given
-EndsReplay tells facts BadLine = Stopped facts.before facts.now facts.images facts.bytes tells facts.left facts.rest facts.taken facts.given
-EndsReplay tells facts ReadFault = BrokeOff facts.before facts.now facts.images facts.bytes tells facts.left facts.rest facts.taken facts.given
-EndsReplay tells facts WriteFault = IsCut facts.before facts.now facts.images facts.bytes tells facts.left facts.rest facts.taken facts.given
-EndsReplay tells facts NoMemory = RanOut facts.before tells facts.left facts.rest facts.taken facts.given
-EndsReplay tells facts status = ⊥
+abbrev pub EndsReplay : Type 0 → (ℕ → Type 0) → Facts → Status → Type 0
+EndsReplay steady tells facts Done = Replayed facts.before facts.now facts.images facts.bytes steady tells facts.left facts.rest facts.taken facts.given
+EndsReplay steady tells facts BadLine = Stopped facts.before facts.now facts.images facts.bytes steady tells facts.left facts.rest facts.taken facts.given
+EndsReplay steady tells facts ReadFault = BrokeOff facts.before facts.now facts.images facts.bytes steady tells facts.left facts.rest facts.taken facts.given
+EndsReplay steady tells facts WriteFault = IsCut facts.before facts.now facts.images facts.bytes steady tells facts.left facts.rest facts.taken facts.given
+EndsReplay steady tells facts NoMemory = RanOut facts.before tells facts.left facts.rest facts.taken facts.given
+EndsReplay steady tells facts status = ⊥
 
--- the status of a command that only reads the saved array
+-- ---- commands that only read the saved array, by what they find
+
+abbrev pub FindsCat : (ℕ → Type 0) → commands.Facts → List ℕ → SavedEnd → Type 0
+FindsCat tells facts path end = Finds tells facts (λ told seen. EndsCat told seen path end)
+
+abbrev pub FindsLs : (ℕ → Type 0) → commands.Facts → List ℕ → SavedEnd → Type 0
+FindsLs tells facts path end = Finds tells facts (λ told seen. EndsLs told seen path end)
+
+abbrev pub FindsStatus : (ℕ → Type 0) → commands.Facts → SavedEnd → Type 0
+FindsStatus tells facts end = Finds tells facts (λ told seen. EndsStatus told seen end)
+
+-- the status of such a command
 abbrev pub status_by : SavedEnd → Status
 status_by SavedDone = Done
 status_by SavedRefused = Refused
@@ -53,7 +66,7 @@ status_by SavedNoState = NoState
 status_by SavedUnclean = Unclean
 status_by SavedWriteFault = WriteFault
 
--- such a command ends by its own rules; at want of memory nothing was printed
+-- it ends by its own rules; at want of memory nothing was printed
 abbrev pub EndsSaved : (SavedEnd → Type 0) → Option (List ℕ) → Option (List ℕ) → Status → Type 0
 EndsSaved ends taken given Done = ends SavedDone
 EndsSaved ends taken given Refused = ends SavedRefused
@@ -115,16 +128,17 @@ EndsDrilled ends taken given WriteFault = ends DrillCut
 EndsDrilled ends taken given NoMemory = given ≡ taken
 EndsDrilled ends taken given status = ⊥
 
--- Each command by its own rules. What is known of blocks is known where the rack tells the members in the end (`tells`).
-abbrev pub Ends : (ℕ → Type 0) → Facts → Command → Status → Type 0
-Ends tells facts Replay status = EndsReplay tells facts status
-Ends tells facts Resume status = EndsResume tells facts status
-Ends tells facts (Cat path) status = EndsSaved (EndsCat tells (met_by facts) path) facts.taken facts.given status
-Ends tells facts (Ls path) status = EndsSaved (EndsLs tells (met_by facts) path) facts.taken facts.given status
-Ends tells facts StatusCommand status = EndsSaved (EndsStatus tells (met_by facts)) facts.taken facts.given status
-Ends tells facts (Trace order b k m) status = EndsTrace (streams_of facts) (asked_by order b k m) status
-Ends tells facts (Drill seed files) status = EndsDrilled (EndsDrill tells (drill_met facts) seed files) facts.taken facts.given status
-Ends tells facts Audit status = EndsAudit (streams_of facts) status
+-- Each command by its own rules. What is known of blocks is known where the rack tells the members in the end (`tells`), and what a rack is reopened as
+-- where it was steady before (`steady`).
+abbrev pub Ends : Type 0 → (ℕ → Type 0) → Facts → Command → Status → Type 0
+Ends steady tells facts Replay status = EndsReplay steady tells facts status
+Ends steady tells facts Resume status = EndsResumed steady tells facts status
+Ends steady tells facts (Cat path) status = EndsSaved (FindsCat tells (met_by facts) path) facts.taken facts.given status
+Ends steady tells facts (Ls path) status = EndsSaved (FindsLs tells (met_by facts) path) facts.taken facts.given status
+Ends steady tells facts StatusCommand status = EndsSaved (FindsStatus tells (met_by facts)) facts.taken facts.given status
+Ends steady tells facts (Trace order b k m) status = EndsTrace (streams_of facts) (asked_by order b k m) status
+Ends steady tells facts (Drill seed files) status = EndsDrilled (EndsDrill tells (drill_met facts) seed files) facts.taken facts.given status
+Ends steady tells facts Audit status = EndsAudit (streams_of facts) status
 
 -- the commands that read the input
 abbrev pub reads_input : Command → Bool

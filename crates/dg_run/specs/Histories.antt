@@ -9,17 +9,17 @@ use Rattle.dg_model.specs.States.{Counts, CountsRise, IsBlank, State}
 use Rattle.dg_model.specs.declared.events.Event.{Event}
 use Rattle.dg_model.specs.declared.replies.Reply.{Reply}
 use Rattle.dg_model.specs.declared.shapes.Shape.{Shape}
+use Rattle.dg_pair.specs.Kept.{KeepsNothing}
+use Rattle.dg_regroup.specs.FrontRacks.{front_length, is_front}
 use Rattle.dg_regroup.specs.LivePassing.{own_calls, own_writes}
 use Rattle.dg_regroup.specs.LiveGhosts.{live}
 use Rattle.dg_regroup.specs.LiveRacks.{live_in, rack_in}
 use Rattle.dg_regroup.specs.declared.live_racks.LiveRack.{LiveRack}
+use Rattle.dg_run.specs.Bases.{Base, IsPlainBase, base, base_bytes, base_counts, base_room, base_stands_in, outer}
 use Rattle.dg_run.specs.Courses.{Course, Standing}
 use Rattle.dg_run.specs.Steps.{BeginsLines, IsSound, NotesFile, StandsIn, rack_of, shape_of}
 use Rattle.dg_run.specs.declared.arrays.Array.{Array}
 use Rattle.dg_stop.specs.Doubles.{LeavesAlone}
-use Rattle.dg_stop.specs.StopCalls.{behind}
-use Rattle.dg_stop.specs.StopRacks.{stop_bytes, stop_counts, stop_room, stop_stands_in, stop_words}
-use Rattle.dg_stop.specs.declared.stop_racks.StopRack.{StopRack}
 use Rattle.dg_store.specs.Leaves.{IsCallOrBlankBelow}
 use Rattle.dg_text.specs.Replies.{reply_line}
 use Rattle.dg_volume.specs.Origins.{Origin, WasHeld}
@@ -49,44 +49,54 @@ TellsLine rack array = (p : ℕ) → p / 2 < boundaries_of array → rack.tells 
 abbrev pub KnownBy : {R : Type 0} → Type 0 → Ghosts R → Array (LiveRack R) → Type 0
 KnownBy P rack array = TellsLine rack array × P
 
--- What holds between events: all is well with the array, its boundaries in use are the first of its rack, which has all 16 that there may be as long as
--- none was taken out of use; and no call was made on a member that isn't there.
+-- What holds between events: all is well with the array, and its boundaries in use are the first of its rack.
 pub record IsReadyOn {R : Type 0} (rack : Ghosts R) (array : Array (LiveRack R)) : Type 0 where
   pub sound : IsSound (live rack) array
   pub longer : length (live_of array) ≤ length (live_in (rack_of array))
   pub places : (x : ℕ) → x < length (live_of array) → slice_index (live_in (rack_of array)) x ≡ slice_index (live_of array) x
-  pub whole : (live_in (rack_of array) ≡ all_live 16) ⊎ (length (live_of array) < boundaries_of array)
-  pub calls : own_calls (rack_of array) ≡ 0
-  pub writes : own_writes (rack_of array) ≡ 0
+
+-- no call was made on a member that isn't there
+pub record OwnSame {R : Type 0} (old new : Array (LiveRack R)) : Type 0 where
+  pub calls : own_calls (rack_of new) ≡ own_calls (rack_of old)
+  pub writes : own_writes (rack_of new) ≡ own_writes (rack_of old)
+
+-- Its rack has all 16 boundaries that there may be, as long as none was taken out of use.
+abbrev pub IsWholeOn : {R : Type 0} → Array (LiveRack R) → Type 0
+IsWholeOn array = (live_in (rack_of array) ≡ all_live 16) ⊎ (length (live_of array) < boundaries_of array)
 
 -- ---- over a rack that is plain or keeps a checkpoint
 
 -- an array on the boundaries in use of such a rack, which stands on the rack of the run
 abbrev pub Running : Type 0 → Type 0
-Running R = Array (LiveRack (StopRack R))
+Running R = Array (LiveRack (Base R))
 
-abbrev pub running : {R : Type 0} → Ghosts R → Ghosts (LiveRack (StopRack R))
-running rack = live (stop_words rack)
+abbrev pub running : {R : Type 0} → Ghosts R → Ghosts (LiveRack (Base R))
+running rack = live (base rack)
 
 abbrev pub IsReady : {R : Type 0} → Ghosts R → Running R → Type 0
-IsReady rack array = IsReadyOn (stop_words rack) array
+IsReady rack array = IsReadyOn (base rack) array
 
--- What events left of the rack of the run: it is the same one, no count fell, and what it tells it told before. The members behind so many boundaries were
--- left alone, but for those that were in a checkpoint.
-pub record Later {R : Type 0} (rack : Ghosts R) (boundaries : ℕ) (old new : StopRack R) : Type 0 where
-  pub rise : CountsRise (rack.counts (behind old)) (rack.counts (behind new))
-  pub told_before : (q : ℕ) → rack.tells (behind new) q → rack.tells (behind old) q
-  pub same_rack : rack.name (behind new) ≡ rack.name (behind old)
-  pub room : stop_room new ≡ stop_room old
-  pub others : (q : ℕ) → boundaries ≤ q / 2 → stop_stands_in old q ≡ false → LeavesAlone rack q (behind old) (behind new) × (stop_stands_in new q ≡ false)
+-- What events left of the rack of the run: it is the same one, no count fell, and what it tells it told before. A member that shows its first bytes alone shows
+-- as many. The members behind so many boundaries were left alone, but for those that were in a checkpoint.
+pub record Later {R : Type 0} (rack : Ghosts R) (boundaries : ℕ) (old new : Base R) : Type 0 where
+  pub rise : CountsRise (rack.counts (outer old)) (rack.counts (outer new))
+  pub told_before : (q : ℕ) → rack.tells (outer new) q → rack.tells (outer old) q
+  pub same_rack : rack.name (outer new) ≡ rack.name (outer old)
+  pub room : base_room new ≡ base_room old
+  pub plain : IsPlainBase old → IsPlainBase new
+  pub still : (q : ℕ) → is_front old q ≡ false → is_front new q ≡ false
+  pub shows : front_length new ≡ front_length old
+  pub others : (q : ℕ) → boundaries ≤ q / 2 → base_stands_in old q ≡ false → LeavesAlone rack q (outer old) (outer new) × (base_stands_in new q ≡ false)
 
 -- What any event leaves of the array: one of the same first line, ready for the next one. What the rack of its boundaries tells it told before.
 pub record Continues {R : Type 0} (rack : Ghosts R) (old new : Running R) : Type 0 where
   pub ready : IsReady rack new
   pub line : volumes.line_of new.volume ≡ volumes.line_of old.volume
   pub boundaries : boundaries_of new ≡ boundaries_of old
+  pub whole : IsWholeOn old → IsWholeOn new
+  pub own : OwnSame old new
   pub later : Later rack (boundaries_of old) (below_of old) (below_of new)
-  pub tells : StillTold (stop_bytes rack (below_of old)) (stop_bytes rack (below_of new))
+  pub tells : StillTold (base_bytes rack (below_of old)) (base_bytes rack (below_of new))
 
 -- ---- moments
 
@@ -95,39 +105,39 @@ abbrev pub standing_of : {R : Type 0} → Array (LiveRack R) → State → Stand
 standing_of array state = record { state = state; rack = below_of array }
 
 -- Of an array over a plain rack that is what stands beneath: its counts, which are those of the rack of the run, and no disk is out.
-abbrev pub on_pairs : {R : Type 0} → Ghosts R → Standing (StopRack R) → Moment
-on_pairs rack now = record { state = now.state; beneath = record { counts = stop_counts rack now.rack; out = λ d. false } }
+abbrev pub on_pairs : {R : Type 0} → Ghosts R → Standing (Base R) → Moment
+on_pairs rack now = record { state = now.state; beneath = record { counts = base_counts rack now.rack; out = λ d. false } }
 
 -- Of an array over a rack that keeps a checkpoint these are the counts of the rack of the run, and no disk is out.
-abbrev pub on_double : {R : Type 0} → Ghosts R → Standing (StopRack R) → Moment
-on_double rack now = record { state = now.state; beneath = record { counts = rack.counts (behind now.rack); out = λ d. false } }
+abbrev pub on_double : {R : Type 0} → Ghosts R → Standing (Base R) → Moment
+on_double rack now = record { state = now.state; beneath = record { counts = rack.counts (outer now.rack); out = λ d. false } }
 
 -- From a state of an array these events led to another one, in which it stands now, with these replies. That it stood for the first state's blocks may
 -- rest on something, and that it stands for the last one's on that and on what members told that are no more in use.
-pub record Leads {R : Type 0} (rack : Ghosts R) (Stands : Type 0 → State → Type 0) (origin : Origin (LiveRack (StopRack R))) (state : State)
+pub record Leads {R : Type 0} (rack : Ghosts R) (Stands : Type 0 → State → Type 0) (origin : Origin (LiveRack (Base R))) (state : State)
     (old new : Running R) (events : List Event) (replies : List Reply) : Type 0 where
-  pub after : Origin (LiveRack (StopRack R))
+  pub after : Origin (LiveRack (Base R))
   pub next : State
   pub stands : Stands (WasHeld (running rack) after) next
-  pub known : TellsLine (stop_words rack) new → WasHeld (running rack) origin → WasHeld (running rack) after
-  pub course : Course rack (KnownBy (WasHeld (running rack) origin) (stop_words rack) new) (standing_of old state) events replies (standing_of new next)
+  pub known : TellsLine (base rack) new → WasHeld (running rack) origin → WasHeld (running rack) after
+  pub course : Course rack (KnownBy (WasHeld (running rack) origin) (base rack) new) (standing_of old state) events replies (standing_of new next)
 
 -- Whichever state the array was in, these events led on from it.
 abbrev pub RunsTo : {R : Type 0} → Ghosts R → Running R → List Event → List Reply → Running R → Type 0
-RunsTo {R = R} rack old events replies new = (origin : Origin (LiveRack (StopRack R))) (state : State) → StandsIn (running rack) (WasHeld (running rack) origin) old state
+RunsTo {R = R} rack old events replies new = (origin : Origin (LiveRack (Base R))) (state : State) → StandsIn (running rack) (WasHeld (running rack) origin) old state
     → Leads rack (λ P next. StandsIn (running rack) P new next) origin state old new events replies
 
 -- the same, but nothing is said of the inodes that were read last
 abbrev pub VolumeRunsTo : {R : Type 0} → Ghosts R → Running R → List Event → List Reply → Running R → Type 0
-VolumeRunsTo {R = R} rack old events replies new = (origin : Origin (LiveRack (StopRack R))) (state : State) → StandsIn (running rack) (WasHeld (running rack) origin) old state
+VolumeRunsTo {R = R} rack old events replies new = (origin : Origin (LiveRack (Base R))) (state : State) → StandsIn (running rack) (WasHeld (running rack) origin) old state
     → Leads rack (λ P next. volumes.StandsIn any_phase (running rack) P new.volume next) origin state old new events replies
 
 -- The same, but nothing is said of what the array stands for now. What the rack of the run tells now it told then.
 abbrev pub RunsBefore : {R : Type 0} → Ghosts R → Running R → List Event → List Reply → Running R → Type 0
-RunsBefore {R = R} rack old events replies now = (origin : Origin (LiveRack (StopRack R))) (state : State) → StandsIn (running rack) (WasHeld (running rack) origin) old state
-    → (next : Standing (StopRack R)) × (next.state.boundaries ≡ boundaries_of now)
-    × Course rack (KnownBy (WasHeld (running rack) origin) (stop_words rack) now) (standing_of old state) events replies next
-    × (TellsLine (stop_words rack) now → (q : ℕ) → q / 2 < next.state.boundaries → rack.tells (behind next.rack) q)
+RunsBefore {R = R} rack old events replies now = (origin : Origin (LiveRack (Base R))) (state : State) → StandsIn (running rack) (WasHeld (running rack) origin) old state
+    → (next : Standing (Base R)) × (next.state.boundaries ≡ boundaries_of now)
+    × Course rack (KnownBy (WasHeld (running rack) origin) (base rack) now) (standing_of old state) events replies next
+    × (TellsLine (base rack) now → (q : ℕ) → q / 2 < next.state.boundaries → rack.tells (outer next.rack) q)
 
 -- ---- answers
 
@@ -167,15 +177,17 @@ EventWanted rack event taken given old now =
 
 -- An array of this shape, over a rack that was so before: it is in the state of the blank array, and calls were made on its members alone. `first` are the
 -- counts of its members before that.
-pub record IsBlankReady {R : Type 0} (rack : Ghosts R) (shape : Shape) (before : StopRack R) (array : Running R) : Type 0 where
+pub record IsBlankReady {R : Type 0} (rack : Ghosts R) (shape : Shape) (before : Base R) (array : Running R) : Type 0 where
   pub ready : IsReady rack array
+  pub whole : IsWholeOn array
   pub shape_is : shape_of array ≡ shape
   pub boundaries : boundaries_of array ≡ shape.b
-  pub made : Makes (stop_words rack) (IsCallOrBlankBelow shape.b) before (below_of array)
-  pub tells : StillTold (stop_bytes rack before) (stop_bytes rack (below_of array))
+  pub made : Makes (base rack) (IsCallOrBlankBelow shape.b) before (below_of array)
+  pub tells : StillTold (base_bytes rack before) (base_bytes rack (below_of array))
   pub state : State
   pub first : Counts
   pub is_blank : IsBlank shape first state
-  pub begun : AreCountsOf (all_live shape.b) (stop_counts rack before) first
-  pub tied : AreCountsOf state.live (stop_counts rack (below_of array)) state.counts
+  pub begun : AreCountsOf (all_live shape.b) (base_counts rack before) first
+  pub tied : AreCountsOf state.live (base_counts rack (below_of array)) state.counts
   pub stands : StandsIn (running rack) (WasHeld (running rack) nothing) array state
+  pub nothing_on : KeepsNothing (base rack).keeps before (below_of array)

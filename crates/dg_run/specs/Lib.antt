@@ -1,4 +1,5 @@
 pub mod Arrays
+pub mod Bases
 pub mod Bytes
 pub mod Calls
 pub mod Completes
@@ -6,8 +7,11 @@ pub mod Courses
 pub mod Endings
 pub mod Ends
 pub mod Events
+pub mod Finds
+pub mod Founds
 pub mod Histories
 pub mod Inputs
+pub mod Keeping
 pub mod Lines
 pub mod Opened
 pub mod Plain
@@ -16,5 +20,6 @@ pub mod Regroups
 pub mod Replays
 pub mod Resumes
 pub mod Scans
+pub mod Starts
 pub mod Statuses
 pub mod Steps

@@ -5,7 +5,7 @@ use Rattle.dg_model.specs.Moments.{HistoryOf, Moment}
 use Rattle.dg_model.specs.States.{Counts, HoldsAll, State}
 use Rattle.dg_model.specs.declared.shapes.Shape.{Shape}
 use Rattle.dg_model.specs.declared.events.Event.{Event}
-use Rattle.dg_model.specs.declared.events.Event.TheVariants.{Array}
+use Rattle.dg_model.specs.declared.events.Event.TheVariants.{Array, Safe}
 use Rattle.dg_model.specs.declared.replies.Reply.{Reply}
 use Rattle.dg_io.specs.Told.{IsSame, Told, Took}
 use Rattle.dg_text.specs.Lines.{line_of, input_of, longest, IsInPlace, AreInPlace}
@@ -13,6 +13,7 @@ use Rattle.dg_text.specs.Replies.{output_of, refusal, reply_line}
 use Rattle.dg_text.specs.declared.lines.BadLine.{BadLine}
 use Rattle.dg_run.specs.Endings.{GaveLines, StartsWith, StopsBefore, TookUpTo}
 use Rattle.dg_run.specs.Inputs.{AwaitsLine}
+use Rattle.dg_run.specs.Keeping.{Keeping, KeepsFrom, MissesNone, Reopens, ShowsAll}
 use Rattle.dg_run.specs.Refusals.{IsRefusedBy}
 use Rattle.dg_run.specs.Steps.{BeginsLines, NotesFile}
 
@@ -20,6 +21,7 @@ use Rattle.dg_run.specs.Steps.{BeginsLines, NotesFile}
 abbrev pub shape_after : List Event → Option Shape
 shape_after [] = None
 shape_after (Array shape ∷ events) = Some shape
+shape_after (Safe shape ∷ events) = Some shape
 shape_after (event ∷ events) = None
 
 -- of each member of the boundaries of a state's first line the rack tells the bytes as long as the member stands
@@ -39,16 +41,25 @@ pub record HoldsInUse (bytes : ℕ → Option (List ℕ)) (state : State) : Type
   pub whole : length state.live ≡ state.boundaries → (q : ℕ) → q < 32 → seen q ≡ bytes q
   pub holds : HoldsAll seen state
 
+-- the first line, if there is one, makes no array that keeps a checkpoint
+abbrev pub KeepsNone : List Event → Type 0
+KeepsNone (Safe shape ∷ events) = ⊥
+KeepsNone events = Unit {0}
+
 -- The events are in their places, and their lines keep to the budget of 2^40 bytes. They had these replies, in steps of the array from nothing to a
 -- final moment, whose counts are those of the rack. Where the rack still tells each member of the first line's boundaries at the end (`tells`), of which
--- some may have fallen by then, the steps are known in their bytes too, and the members in use hold the blocks of the final state, and the last label
--- where they keep it. The members behind those were left alone.
-pub record Ran (before now : Counts) (images bytes : ℕ → Option (List ℕ)) (tells : ℕ → Type 0) (events : List Event) (replies : List Reply) : Type 0 where
+-- some may have fallen by then, the steps are known in their bytes too; and where the array keeps no checkpoint, the members in use hold the blocks of
+-- the final state, and the last label where they keep it. Where it keeps one, and the rack was steady when the run began (`steady`), the members are
+-- reopened as what was kept last. Those behind them were left alone.
+pub record Ran (before now : Counts) (images bytes : ℕ → Option (List ℕ)) (steady : Type 0) (tells : ℕ → Type 0) (events : List Event) (replies : List Reply) : Type 0 where
   pub in_place : AreInPlace events
   pub budget : length (input_of events) ≤ 2 ^ 40
   pub final : Moment
   pub history : HistoryOf (TellsBoundaries tells final.state) before events replies final
-  pub holds : TellsBoundaries tells final.state → HoldsInUse bytes final.state
+  pub holds : KeepsNone events → TellsBoundaries tells final.state → HoldsInUse bytes final.state
+  pub kept : (KeepsNone events → ⊥) → steady → TellsBoundaries tells final.state
+      → (last : Keeping) × KeepsFrom (TellsBoundaries tells final.state) before events replies final last
+      × Reopens MissesNone ShowsAll bytes final.state last
   pub others : OthersKept final.state.boundaries before now images bytes
   pub counts : final.beneath.counts ≡ now
 
@@ -125,21 +136,21 @@ IsCutBy Means left rest taken given = CutReplyBy Means left rest taken given ⊎
 
 -- ---- the same, where the run is that of an array from nothing
 
-abbrev pub Replayed : Counts → Counts → (ℕ → Option (List ℕ)) → (ℕ → Option (List ℕ)) → (ℕ → Type 0) → Option (List ℕ) → Option (List ℕ) → Option (List ℕ)
+abbrev pub Replayed : Counts → Counts → (ℕ → Option (List ℕ)) → (ℕ → Option (List ℕ)) → Type 0 → (ℕ → Type 0) → Option (List ℕ) → Option (List ℕ) → Option (List ℕ)
     → Option (List ℕ) → Type 0
-Replayed before now images bytes tells left rest taken given = ReplayedBy (Ran before now images bytes tells) left rest taken given
+Replayed before now images bytes steady tells left rest taken given = ReplayedBy (Ran before now images bytes steady tells) left rest taken given
 
-abbrev pub Stopped : Counts → Counts → (ℕ → Option (List ℕ)) → (ℕ → Option (List ℕ)) → (ℕ → Type 0) → Option (List ℕ) → Option (List ℕ) → Option (List ℕ)
+abbrev pub Stopped : Counts → Counts → (ℕ → Option (List ℕ)) → (ℕ → Option (List ℕ)) → Type 0 → (ℕ → Type 0) → Option (List ℕ) → Option (List ℕ) → Option (List ℕ)
     → Option (List ℕ) → Type 0
-Stopped before now images bytes tells left rest taken given = StoppedBy (Ran before now images bytes tells) left rest taken given
+Stopped before now images bytes steady tells left rest taken given = StoppedBy (Ran before now images bytes steady tells) left rest taken given
 
-abbrev pub BrokeOff : Counts → Counts → (ℕ → Option (List ℕ)) → (ℕ → Option (List ℕ)) → (ℕ → Type 0) → Option (List ℕ) → Option (List ℕ) → Option (List ℕ)
+abbrev pub BrokeOff : Counts → Counts → (ℕ → Option (List ℕ)) → (ℕ → Option (List ℕ)) → Type 0 → (ℕ → Type 0) → Option (List ℕ) → Option (List ℕ) → Option (List ℕ)
     → Option (List ℕ) → Type 0
-BrokeOff before now images bytes tells left rest taken given = BrokeOffBy (Ran before now images bytes tells) left rest taken given
+BrokeOff before now images bytes steady tells left rest taken given = BrokeOffBy (Ran before now images bytes steady tells) left rest taken given
 
-abbrev pub IsCut : Counts → Counts → (ℕ → Option (List ℕ)) → (ℕ → Option (List ℕ)) → (ℕ → Type 0) → Option (List ℕ) → Option (List ℕ) → Option (List ℕ)
+abbrev pub IsCut : Counts → Counts → (ℕ → Option (List ℕ)) → (ℕ → Option (List ℕ)) → Type 0 → (ℕ → Type 0) → Option (List ℕ) → Option (List ℕ) → Option (List ℕ)
     → Option (List ℕ) → Type 0
-IsCut before now images bytes tells left rest taken given = IsCutBy (Ran before now images bytes tells) left rest taken given
+IsCut before now images bytes steady tells left rest taken given = IsCutBy (Ran before now images bytes steady tells) left rest taken given
 
 -- Memory was wanting for a line: the input begins with the lines of these events, and then with one that has no more bytes than the longest and than what
 -- is left of the budget; so that one is refused neither for its length nor for the input's end. The output is the text of the replies. Nothing is said of

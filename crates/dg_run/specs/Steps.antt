@@ -1,5 +1,5 @@
 -- An array beside the model's states.
-use Rattle.std.specs.Prelude.{◌≡◌, ◌⊎◌, ◌≤◌, ◌/◌, ◌++◌, ℕ, List, Option, length}
+use Rattle.std.specs.Prelude.{◌≡◌, ◌⊎◌, ◌++◌, ℕ, List, Option, length}
 use Rattle.dg_io.specs.declared.outside.Rack.{Ghosts}
 use Rattle.dg_io.specs.Told.{StillTold, Told, Took, TookPart}
 use Rattle.dg_model.specs.Paths.{PathOf}
@@ -10,13 +10,17 @@ use Rattle.dg_model.specs.declared.events.Event.TheVariants.{Cat, LostFiles, Tre
 use Rattle.dg_model.specs.declared.replies.Reply.{Reply}
 use Rattle.dg_model.specs.declared.replies.Reply.TheVariants.{LostFiles as LostFilesReply, Nodes}
 use Rattle.dg_model.specs.declared.shapes.Shape.{Shape}
+use Rattle.dg_pair.specs.Kept.{KeepsNothing}
 use Rattle.dg_run.specs.declared.arrays.Array.{Array}
 use Rattle.dg_store.specs.Leaves.{IsCallOrBlankBelow, IsCallOrExtendBelow, MadeBelow}
 use Rattle.dg_text.specs.Replies.{lost_text, nodes_text, reply_line}
-use Rattle.dg_volume.specs.Commits.{KeepsSaved}
+use Rattle.dg_volume.specs.Commits.{KeepsBy, KeepsSaved, checkpoint_reply}
 use Rattle.dg_volume.specs.Origins.{Always, Origin, WasHeld}
+use Rattle.dg_volume.specs.Refills.{KeepsReplaced, replace_reply}
 use Rattle.dg_volume.specs.Volumes.{IsWell, Leaves, LeavesBy, any_phase}
 use Rattle.dg_volume.specs.Volumes as volumes
+use Rattle.dg_volume.specs.declared.commits.CheckpointAnswer.{CheckpointAnswer}
+use Rattle.dg_volume.specs.declared.refills.ReplaceAnswer.{ReplaceAnswer}
 use Rattle.ufs_model.specs.Listings.{Listed}
 
 -- ---- parts
@@ -51,7 +55,19 @@ pub record GoesKept {R : Type 0} (rack : Ghosts R) (room : R → Option ℕ) (co
   pub sound : IsSound rack new
   pub line : volumes.line_of new.volume ≡ volumes.line_of old.volume
   pub boundaries : (volumes.reduced_of new.volume).boundaries ≡ (volumes.reduced_of old.volume).boundaries
-  pub by : GoesSaved rack old new ⊎ KeepsSaved any_phase rack room commits old.volume new.volume
+  pub by : GoesSaved rack old new ⊎ KeepsSaved any_phase rack room commits old.hot old.volume new.volume
+
+-- it was saved with such a reply, and that is what it left of what the rack keeps
+pub record SavedBy {R : Type 0} (rack : Ghosts R) (room : R → Option ℕ) (commits : R → R → Type 0) (reply : Reply) (old new : Array R) : Type 0 where
+  pub answer : CheckpointAnswer
+  pub is : reply ≡ checkpoint_reply answer
+  pub kept : KeepsBy any_phase rack room commits old.hot old.volume new.volume answer
+
+-- a member of boundary s was replaced with such a reply
+pub record ReplacedBy {R : Type 0} (rack : Ghosts R) (s j : ℕ) (reply : Reply) (old new : Array R) : Type 0 where
+  pub answer : ReplaceAnswer
+  pub is : reply ≡ replace_reply s answer
+  pub kept : KeepsReplaced rack s j answer old.volume new.volume
 
 -- what stays of it where a member is replaced
 abbrev pub GoesReplaced : {R : Type 0} → Ghosts R → Array R → Array R → Type 0
@@ -132,3 +148,5 @@ pub record IsBlankArray {R : Type 0} (rack : Ghosts R) (shape : Shape) (before :
   pub state : State
   pub blank : IsBlank shape (rack.counts before) state
   pub stands : StandsIn rack Always array state
+  -- where the rack kept nothing, it does
+  pub nothing : KeepsNothing rack.keeps before (rack_of array)

@@ -6,6 +6,8 @@ ghost use Rattle.dg_run.specs.Steps.{IsBlankArray};
 use dg_hot::Hot;
 use dg_io::{NoMemory, Rack};
 use dg_model::Shape;
+use dg_regroup::{FrontRack, LiveRack};
+use dg_stop::StopRack;
 use dg_volume::{AnyPhase, Volume};
 use std::alloc::Global;
 
@@ -15,6 +17,12 @@ pub struct Array<R> {
     pub volume: Volume<AnyPhase, R>,
     pub hot: Hot,
 }
+
+/// A rack of which some members may show their first bytes alone, or nothing, over one that is plain or keeps a checkpoint.
+pub type Base<R> = FrontRack<StopRack<R>>;
+
+/// The array of a run, on the boundaries in use of such a rack.
+pub type Running<R> = Array<LiveRack<Base<R>>>;
 
 impl<R: Rack> Array<R> {
     /// The blank array of this shape.

@@ -7,6 +7,7 @@
 
 mod arrays;
 mod audits;
+mod bases;
 mod blocks;
 mod cats;
 mod drills;

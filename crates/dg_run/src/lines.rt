@@ -11,14 +11,12 @@ ghost use Rattle.dg_run.specs.Histories.{Continues, IsReady};
 ghost use Rattle.dg_run.specs.Steps.{shape_of};
 ghost use Rattle.dg_run.specs.Lines.{Turned, LinesEndAt, empty_reads_of_turn};
 
-use crate::arrays::Array;
+use crate::arrays::Running;
 use crate::events::{Fault, Taken, take_event};
 use crate::input::Input;
 use crate::serve::serve;
 use dg_io::{Rack, Sink, Source};
 use dg_model::Shape;
-use dg_regroup::LiveRack;
-use dg_stop::StopRack;
 use dg_text::BadLine;
 use std::alloc::Global;
 
@@ -51,7 +49,7 @@ fn serve_next<S: Source, K: Sink, R: Rack>(
     input: &mut Input,
     source: &mut S,
     sink: &mut K,
-    array: &mut Array<LiveRack<StopRack<R>>>,
+    array: &mut Running<R>,
     block: &mut [u8],
     shape: &Shape,
     room: u64,
@@ -96,7 +94,7 @@ pub fn serve_lines<S: Source, K: Sink, R: Rack>(
     input: &mut Input,
     source: &mut S,
     sink: &mut K,
-    array: &mut Array<LiveRack<StopRack<R>>>,
+    array: &mut Running<R>,
     block: &mut [u8],
     first: u64,
     from: u64,

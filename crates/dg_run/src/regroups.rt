@@ -5,19 +5,18 @@ ghost use Rattle.dg_model.specs.Causes.{Rose};
 ghost use Rattle.dg_model.specs.declared.events.Event.{Event};
 ghost use Rattle.dg_run.specs.Histories.{Continues, EventAnswered, EventCut, IsReady};
 
-use crate::arrays::Array;
+use crate::arrays::Running;
 use crate::events::Fault;
 use crate::replies::regroup_reply;
 use crate::serve::send;
 use dg_io::{Rack, Sink};
-use dg_regroup::{LiveRack, names_tell_boundaries};
-use dg_stop::StopRack;
+use dg_regroup::names_tell_boundaries;
 use std::alloc::Global;
 
 /// Takes the lost boundaries out of use, and writes the reply.
 pub fn serve_regroup<R: Rack, K: Sink>(
     alloc: Global,
-    array: &mut Array<LiveRack<StopRack<R>>>,
+    array: &mut Running<R>,
     sink: &mut K,
 ) -> Result<(), Fault>
     requires ready { IsReady R.Rack array.old }

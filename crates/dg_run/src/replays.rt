@@ -5,7 +5,6 @@ ghost use Rattle.dg_io.specs.SourceReads.{LeavesSource};
 ghost use Rattle.dg_io.specs.Told.{Told, Took, TookPart, AreAny};
 ghost use Rattle.dg_model.specs.Causes.{Rose};
 ghost use Rattle.dg_model.specs.Shapes.{IsShape};
-ghost use Rattle.dg_model.specs.declared.events.Event.{Event};
 ghost use Rattle.dg_model.specs.declared.replies.Reply.{Reply};
 ghost use Rattle.dg_run.specs.Arrays.{AllAnswered, AnsweredTo, ArrayCut, ArrayRanOut, ArrayReplayed, ArrayStopped, IsOfReplay};
 ghost use Rattle.dg_run.specs.Calls.{facts_of};
@@ -15,19 +14,21 @@ ghost use Rattle.dg_run.specs.Events.{Begins};
 ghost use Rattle.dg_run.specs.Inputs.{ahead, BeginsWithLine};
 ghost use Rattle.dg_run.specs.Replays.{BrokeOff, IsCut, Ran, RanOut, Replayed, Stopped, WantsFirst};
 ghost use Rattle.dg_run.specs.Histories.{Continues, IsReady};
+ghost use Rattle.dg_run.specs.Starts.{IsUnused, KeepsFirst, first_line};
 ghost use Rattle.dg_run.specs.Steps.{shape_of};
+ghost use Rattle.dg_stop.specs.StopCalls.{behind};
 ghost use Rattle.dg_text.specs.Lines.{line_of, longest};
 ghost use Rattle.dg_text.specs.Replies.{reply_line, refusal};
 
-use crate::arrays::Array;
+use crate::arrays::{Array, Running};
+use crate::bases::{Start, first_rack, outer, whole};
 use crate::events::{Fault, Taken, take_event};
 use crate::input::Input;
 use crate::lines::{BUDGET, LinesEnd, serve_lines};
 use crate::serve::send;
 use crate::top::Status;
 use dg_io::{Rack, Sink, Source};
-use dg_model::{Event, NoMemory, Reply, Shape};
-use dg_regroup::LiveRack;
+use dg_model::{NoMemory, Reply, Shape};
 use dg_stop::StopRack;
 use dg_text::{BadLine, write_refusal};
 use std::alloc::Global;
@@ -80,7 +81,7 @@ fn serve_array<S: Source, K: Sink, R: Rack>(
     input: &mut Input,
     source: &mut S,
     sink: &mut K,
-    array: &mut Array<LiveRack<StopRack<R>>>,
+    array: &mut Running<R>,
     first: u64,
 ) -> Status
     requires ready { IsReady R.Rack array.old }
@@ -127,32 +128,34 @@ fn replay_array<S: Source, K: Sink, R: Rack + Drop>(
     input: &mut Input,
     source: &mut S,
     sink: &mut K,
-    rack: R,
+    stop: StopRack<R>,
     shape: Shape,
     first: u64,
 ) -> Result<Ended<R>, NoMemory>
     requires shape { IsShape shape }
-    requires first { first ≡ length (line_of (Event.Array shape)) }
+    requires unused { IsUnused shape stop }
+    requires keeps { KeepsFirst R.Rack stop }
+    requires first { first ≡ length (line_of (first_line stop shape)) }
     requires budget { first ≤ 2 ^ 40 }
-    ensures name { IfOk result (λ end. R.name end.rack ≡ R.name rack) }
+    ensures name { IfOk result (λ end. R.name end.rack ≡ R.name (behind stop)) }
     ensures done { IfOk result (λ end. end.status ≡ Status.Done
-        → ArrayReplayed (Ran (R.counts rack) (R.counts end.rack) (R.bytes rack) (R.bytes end.rack) (R.tells end.rack)) (Event.Array shape)
-        (ahead input.old (S.left source.old)) (ahead input.new (S.left source.new)) (K.taken sink.old) (K.taken sink.new)) }
+        → ArrayReplayed (Ran (R.counts (behind stop)) (R.counts end.rack) (R.bytes (behind stop)) (R.bytes end.rack) (R.steady (behind stop)) (R.tells end.rack))
+        (first_line stop shape) (ahead input.old (S.left source.old)) (ahead input.new (S.left source.new)) (K.taken sink.old) (K.taken sink.new)) }
     ensures bad_line { IfOk result (λ end. end.status ≡ Status.BadLine
-        → ArrayStopped (Ran (R.counts rack) (R.counts end.rack) (R.bytes rack) (R.bytes end.rack) (R.tells end.rack)) (Event.Array shape) shape
-        (ahead input.old (S.left source.old)) (ahead input.new (S.left source.new)) (K.taken sink.old) (K.taken sink.new)) }
+        → ArrayStopped (Ran (R.counts (behind stop)) (R.counts end.rack) (R.bytes (behind stop)) (R.bytes end.rack) (R.steady (behind stop)) (R.tells end.rack))
+        (first_line stop shape) shape (ahead input.old (S.left source.old)) (ahead input.new (S.left source.new)) (K.taken sink.old) (K.taken sink.new)) }
     ensures broken { IfOk result (λ end. end.status ≡ Status.ReadFault → (text : Option (List ℕ))
-        → Told (Begins None (Event.Array shape)) text (ahead input.old (S.left source.old))
-        → BrokeOff (R.counts rack) (R.counts end.rack) (R.bytes rack) (R.bytes end.rack) (R.tells end.rack) text (S.left source.new) (K.taken sink.old)
-        (K.taken sink.new)) }
+        → Told (Begins None (first_line stop shape)) text (ahead input.old (S.left source.old))
+        → BrokeOff (R.counts (behind stop)) (R.counts end.rack) (R.bytes (behind stop)) (R.bytes end.rack) (R.steady (behind stop)) (R.tells end.rack) text (S.left source.new)
+        (K.taken sink.old) (K.taken sink.new)) }
     ensures part { IfOk result (λ end. end.status ≡ Status.WriteFault → (text : Option (List ℕ))
-        → Told (Begins None (Event.Array shape)) text (ahead input.old (S.left source.old))
-        → IsCut (R.counts rack) (R.counts end.rack) (R.bytes rack) (R.bytes end.rack) (R.tells end.rack) text (S.left source.new) (K.taken sink.old)
-        (K.taken sink.new)) }
+        → Told (Begins None (first_line stop shape)) text (ahead input.old (S.left source.old))
+        → IsCut (R.counts (behind stop)) (R.counts end.rack) (R.bytes (behind stop)) (R.bytes end.rack) (R.steady (behind stop)) (R.tells end.rack) text (S.left source.new)
+        (K.taken sink.old) (K.taken sink.new)) }
     ensures wanting { IfOk result (λ end. end.status ≡ Status.NoMemory → (text : Option (List ℕ))
-        → Told (Begins None (Event.Array shape)) text (ahead input.old (S.left source.old))
+        → Told (Begins None (first_line stop shape)) text (ahead input.old (S.left source.old))
         → Told (BeginsWithLine (longest None) (2 ^ 40)) text (ahead input.old (S.left source.old))
-        → RanOut (R.counts rack) (R.tells end.rack) text (S.left source.new) (K.taken sink.old) (K.taken sink.new)) }
+        → RanOut (R.counts (behind stop)) (R.tells end.rack) text (S.left source.new) (K.taken sink.old) (K.taken sink.new)) }
     ensures none { OnErr result (Told AreAny (ahead input.old (S.left source.old)) (S.left source.new) × (K.taken sink.new ≡ K.taken sink.old)) }
     ensures read { IfOk result (λ end. end.status ≡ Status.ReadFault → Rose (S.faults source.old) (S.faults source.new)) }
     ensures write { IfOk result (λ end. end.status ≡ Status.WriteFault → Rose (K.faults sink.old) (K.faults sink.new)) }
@@ -167,15 +170,12 @@ fn replay_array<S: Source, K: Sink, R: Rack + Drop>(
     ensures err_lines { OnErr result (LeavesLines 255 K.whole K.calls K.taken sink.old sink.new) }
     ensures never { IfOk result (λ end. IsOfReplay end.status) }
 {
-    let plain = StopRack::plain(rack);
-    let live = LiveRack::of_all(alloc, plain)?;
+    let live = whole(alloc, stop)?;
     let mut array = Array::new(alloc, live, shape)?;
     let status = serve_array(alloc, input, source, sink, &mut array, first);
     let Array { volume, .. } = array;
-    let left = volume.into_rack();
-    let stop = left.into_rack();
     Ok(Ended {
-        rack: stop.into_rack(),
+        rack: outer(volume.into_rack()),
         status,
     })
 }
@@ -189,16 +189,16 @@ fn replay<S: Source, K: Sink, R: Rack + Drop>(
 ) -> Result<Ended<R>, NoMemory>
     ensures name { IfOk result (λ end. R.name end.rack ≡ R.name rack) }
     ensures done { IfOk result (λ end. end.status ≡ Status.Done
-        → Replayed (R.counts rack) (R.counts end.rack) (R.bytes rack) (R.bytes end.rack) (R.tells end.rack) (S.left source.old) (S.left source.new)
+        → Replayed (R.counts rack) (R.counts end.rack) (R.bytes rack) (R.bytes end.rack) (R.steady rack) (R.tells end.rack) (S.left source.old) (S.left source.new)
         (K.taken sink.old) (K.taken sink.new)) }
     ensures bad_line { IfOk result (λ end. end.status ≡ Status.BadLine
-        → Stopped (R.counts rack) (R.counts end.rack) (R.bytes rack) (R.bytes end.rack) (R.tells end.rack) (S.left source.old) (S.left source.new)
+        → Stopped (R.counts rack) (R.counts end.rack) (R.bytes rack) (R.bytes end.rack) (R.steady rack) (R.tells end.rack) (S.left source.old) (S.left source.new)
         (K.taken sink.old) (K.taken sink.new)) }
     ensures broken { IfOk result (λ end. end.status ≡ Status.ReadFault
-        → BrokeOff (R.counts rack) (R.counts end.rack) (R.bytes rack) (R.bytes end.rack) (R.tells end.rack) (S.left source.old) (S.left source.new)
+        → BrokeOff (R.counts rack) (R.counts end.rack) (R.bytes rack) (R.bytes end.rack) (R.steady rack) (R.tells end.rack) (S.left source.old) (S.left source.new)
         (K.taken sink.old) (K.taken sink.new)) }
     ensures part { IfOk result (λ end. end.status ≡ Status.WriteFault
-        → IsCut (R.counts rack) (R.counts end.rack) (R.bytes rack) (R.bytes end.rack) (R.tells end.rack) (S.left source.old) (S.left source.new)
+        → IsCut (R.counts rack) (R.counts end.rack) (R.bytes rack) (R.bytes end.rack) (R.steady rack) (R.tells end.rack) (S.left source.old) (S.left source.new)
         (K.taken sink.old) (K.taken sink.new)) }
     ensures wanting { IfOk result (λ end. end.status ≡ Status.NoMemory
         → RanOut (R.counts rack) (R.tells end.rack) (S.left source.old) (S.left source.new) (K.taken sink.old) (K.taken sink.new)) }
@@ -216,10 +216,10 @@ fn replay<S: Source, K: Sink, R: Rack + Drop>(
 {
     let mut input = Input::new(alloc)?;
     match take_event(alloc, &mut input, source, None, BUDGET) {
-        Ok(Taken::Event(Event::Array(shape), bytes)) => {
-            replay_array(alloc, &mut input, source, sink, rack, shape, bytes)
+        Ok(Taken::Event(make, bytes)) => {
+            let Start { stop, shape } = first_rack(alloc, rack, make)?;
+            replay_array(alloc, &mut input, source, sink, stop, shape, bytes)
         }
-        Ok(Taken::Event(_, _)) => unreachable!(),
         Ok(Taken::End) => Ok(Ended {
             rack,
             status: refuse(sink, 1, BadLine::Cut),
@@ -242,7 +242,7 @@ pub fn serve_replay<S: Source, K: Sink, R: Rack>(
     sink: &mut K,
     rack: &mut R,
 ) -> Status
-    ensures ends { EndsReplay (R.tells rack.new) (facts_of S.Source K.Sink R.Rack source.old source.new sink.old sink.new rack.old rack.new) result }
+    ensures ends { EndsReplay (R.steady rack.old) (R.tells rack.new) (facts_of S.Source K.Sink R.Rack source.old source.new sink.old sink.new rack.old rack.new) result }
     ensures read { result ≡ Status.ReadFault → Rose (S.faults source.old) (S.faults source.new) }
     ensures write { result ≡ Status.WriteFault → Rose (K.faults sink.old) (K.faults sink.new) }
     ensures source_kept { (result ≡ Status.ReadFault → ⊥) → S.faults source.new ≡ S.faults source.old }

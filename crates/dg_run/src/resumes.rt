@@ -9,21 +9,21 @@ ghost use Rattle.dg_run.specs.Calls.{facts_of};
 ghost use Rattle.dg_run.specs.Endings.{LinesBrokeOff, LinesCut, LinesRanOut};
 ghost use Rattle.dg_run.specs.Inputs.{ahead};
 ghost use Rattle.dg_run.specs.Lines.{AllServed, RefusedBehind, RefusedInPart};
-ghost use Rattle.dg_run.specs.Resumes.{EndsResume};
+ghost use Rattle.dg_run.specs.Resumes.{EndsResumed};
 ghost use Rattle.dg_run.specs.Histories.{Continues, IsReady};
 ghost use Rattle.dg_run.specs.Steps.{shape_of};
 ghost use Rattle.dg_saved.specs.Texts.{nostate_text, unclean_text};
 
-use crate::arrays::Array;
+use crate::arrays::{Array, Running};
+use crate::bases::{open_rack, outer};
 use crate::input::Input;
 use crate::lines::{LinesEnd, serve_lines};
 use crate::replays::{Ended, refuse, status_of};
 use crate::top::Status;
 use dg_io::{Rack, Sink, Source, write_all};
 use dg_model::NoMemory;
-use dg_regroup::LiveRack;
-use dg_stop::StopRack;
-use dg_volume::{OpenAnswer, open};
+use dg_regroup::extra_bytes_are_unique;
+use dg_volume::{OpenAnswer, open_kept};
 use std::alloc::Global;
 
 /// Tells that there is no saved array.
@@ -62,7 +62,7 @@ fn resume_array<S: Source, K: Sink, R: Rack>(
     input: &mut Input,
     source: &mut S,
     sink: &mut K,
-    array: &mut Array<LiveRack<StopRack<R>>>,
+    array: &mut Running<R>,
 ) -> Status
     requires ready { IsReady R.Rack array.old }
     ensures goes { Continues R.Rack array.old array.new }
@@ -107,7 +107,7 @@ fn resume<S: Source, K: Sink, R: Rack + Drop>(
     rack: R,
 ) -> Result<Ended<R>, NoMemory>
     ensures name { IfOk result (λ end. R.name end.rack ≡ R.name rack) }
-    ensures ends { IfOk result (λ end. EndsResume (R.tells end.rack)
+    ensures ends { IfOk result (λ end. EndsResumed (R.steady rack) (R.tells end.rack)
         (facts_of S.Source K.Sink R.Rack source.old source.new sink.old sink.new rack end.rack) end.status) }
     ensures none { OnErr result ((source.new ≡ source.old) × (sink.new ≡ sink.old)) }
     ensures read { IfOk result (λ end. end.status ≡ Status.ReadFault → Rose (S.faults source.old) (S.faults source.new)) }
@@ -117,35 +117,27 @@ fn resume<S: Source, K: Sink, R: Rack + Drop>(
     ensures lines { IfOk result (λ end. (end.status ≡ Status.WriteFault → ⊥) → LeavesLines 255 K.whole K.calls K.taken sink.old sink.new) }
     ensures reads { LeavesSource S.calls S.left 1 source.old source.new }
 {
+    extra_bytes_are_unique();
     let mut input = Input::new(alloc)?;
-    let plain = StopRack::plain(rack);
-    let live = LiveRack::of_all(alloc, plain)?;
-    match open(alloc, live)? {
+    let saved = open_rack(alloc, rack)?;
+    match open_kept(alloc, saved.live, &saved.extra)? {
         OpenAnswer::Opened(volume, hot) => {
             let mut array = Array { volume, hot };
             let status = resume_array(alloc, &mut input, source, sink, &mut array);
             let Array { volume, .. } = array;
-            let left = volume.into_rack();
-            let stop = left.into_rack();
             Ok(Ended {
-                rack: stop.into_rack(),
+                rack: outer(volume.into_rack()),
                 status,
             })
         }
-        OpenAnswer::NoState(live) => {
-            let stop = live.into_rack();
-            Ok(Ended {
-                rack: stop.into_rack(),
-                status: tell_no_state(sink),
-            })
-        }
-        OpenAnswer::Unclean(live) => {
-            let stop = live.into_rack();
-            Ok(Ended {
-                rack: stop.into_rack(),
-                status: tell_unclean(sink),
-            })
-        }
+        OpenAnswer::NoState(live) => Ok(Ended {
+            rack: outer(live),
+            status: tell_no_state(sink),
+        }),
+        OpenAnswer::Unclean(live) => Ok(Ended {
+            rack: outer(live),
+            status: tell_unclean(sink),
+        }),
     }
 }
 
@@ -156,7 +148,7 @@ pub fn serve_resume<S: Source, K: Sink, R: Rack>(
     sink: &mut K,
     rack: &mut R,
 ) -> Status
-    ensures ends { EndsResume (R.tells rack.new) (facts_of S.Source K.Sink R.Rack source.old source.new sink.old sink.new rack.old rack.new) result }
+    ensures ends { EndsResumed (R.steady rack.old) (R.tells rack.new) (facts_of S.Source K.Sink R.Rack source.old source.new sink.old sink.new rack.old rack.new) result }
     ensures read { result ≡ Status.ReadFault → Rose (S.faults source.old) (S.faults source.new) }
     ensures write { result ≡ Status.WriteFault → Rose (K.faults sink.old) (K.faults sink.new) }
     ensures source_kept { (result ≡ Status.ReadFault → ⊥) → S.faults source.new ≡ S.faults source.old }

@@ -7,9 +7,9 @@ ghost use Rattle.dg_text.specs.Replies.{reply_line};
 ghost use Rattle.dg_io.specs.Told.{Told, Took, TookPart};
 ghost use Rattle.dg_run.specs.Histories.{Continues, EventAnswered, EventCut, EventWanted, IsReady};
 ghost use Rattle.dg_run.specs.Plain.{IsOfPairs, is_plain};
-ghost use Rattle.dg_run.specs.Steps.{Answered, AnsweredPart, GoesKept, GoesOn, GoesReplaced, IsSound, StepsTo, rack_of, shape_of};
+ghost use Rattle.dg_run.specs.Steps.{Answered, AnsweredPart, GoesKept, GoesOn, GoesReplaced, IsSound, ReplacedBy, SavedBy, StepsTo, rack_of, shape_of};
 
-use crate::arrays::Array;
+use crate::arrays::{Array, Running};
 use crate::blocks::{fill_block, trimmed};
 use crate::cats::serve_cat;
 use crate::events::Fault;
@@ -24,8 +24,6 @@ use crate::replies::{
 use crate::trees::serve_tree;
 use dg_io::{Checkpoint, Rack, Sink};
 use dg_model::{Event, NoMemory, Reply};
-use dg_regroup::LiveRack;
-use dg_stop::StopRack;
 use dg_text::{write_data, write_reply as write_line};
 use dg_volume::ReadAnswer;
 use std::alloc::Global;
@@ -94,6 +92,7 @@ fn save<R: Checkpoint>(alloc: Global, array: &mut Array<R>) -> Result<Reply, NoM
     ensures goes { GoesKept R.Rack R.room_of R.commits array.old array.new }
     ensures steps { IfOk result (λ reply. StepsTo R.Rack array.old Event.Save reply array.new) }
     ensures of_pairs { IfOk result (λ reply. IsOfPairs array.old Event.Save reply (R.room_of (rack_of array.old))) }
+    ensures saved { IfOk result (λ reply. SavedBy R.Rack R.room_of R.commits reply array.old array.new) }
 {
     let answer = array.volume.checkpoint(alloc, &array.hot)?;
     Ok(checkpoint_reply(answer))
@@ -104,6 +103,7 @@ fn replace<R: Rack>(array: &mut Array<R>, s: u32, j: u32) -> Reply
     requires sound { IsSound R.Rack array.old }
     ensures goes { GoesReplaced R.Rack array.old array.new }
     ensures steps { StepsTo R.Rack array.old (Event.Replace s j) result array.new }
+    ensures replaced { ReplacedBy R.Rack s j result array.old array.new }
 {
     replace_reply(s, array.volume.replace(s, j))
 }
@@ -156,7 +156,7 @@ fn reply_to<R: Rack>(
 /// Saves the state, and writes the reply.
 fn serve_save<R: Rack, K: Sink>(
     alloc: Global,
-    array: &mut Array<LiveRack<StopRack<R>>>,
+    array: &mut Running<R>,
     sink: &mut K,
 ) -> Result<(), Fault>
     requires ready { IsReady R.Rack array.old }
@@ -178,7 +178,7 @@ fn serve_save<R: Rack, K: Sink>(
 
 /// Makes a member anew that is out, and writes the reply.
 fn serve_replace<R: Rack, K: Sink>(
-    array: &mut Array<LiveRack<StopRack<R>>>,
+    array: &mut Running<R>,
     sink: &mut K,
     s: u32,
     j: u32,
@@ -201,7 +201,7 @@ fn serve_replace<R: Rack, K: Sink>(
 /// Does such an event, and writes its reply.
 fn serve_plain<R: Rack, K: Sink>(
     alloc: Global,
-    array: &mut Array<LiveRack<StopRack<R>>>,
+    array: &mut Running<R>,
     sink: &mut K,
     event: &Event,
     block: &mut [u8],
@@ -229,7 +229,7 @@ fn serve_plain<R: Rack, K: Sink>(
 /// Does an event that is in its place after the array, and writes its reply.
 pub fn serve<R: Rack, K: Sink>(
     alloc: Global,
-    array: &mut Array<LiveRack<StopRack<R>>>,
+    array: &mut Running<R>,
     sink: &mut K,
     event: &Event,
     block: &mut [u8],

@@ -90,7 +90,7 @@ fn serve_command<S: Source, K: Sink, R: Rack>(
     rack: &mut R,
 ) -> Status
     requires values { HasValues asked.now }
-    ensures ends { Ends (R.tells rack.new) (facts_of S.Source K.Sink R.Rack source.old source.new sink.old sink.new rack.old rack.new) asked.now result }
+    ensures ends { Ends (R.steady rack.old) (R.tells rack.new) (facts_of S.Source K.Sink R.Rack source.old source.new sink.old sink.new rack.old rack.new) asked.now result }
     ensures usage { result ≡ Status.Usage → ⊥ }
     ensures quiet { reads_input asked.now ≡ false → source.new ≡ source.old }
     ensures idle { uses_array asked.now ≡ false → rack.new ≡ rack.old }
@@ -131,7 +131,7 @@ pub fn run<S: Source, K: Sink, R: Rack>(
 ) -> Status
     // Each command ends by its own rules.
     ensures ends { (command : Command) → IsCommand (map string_bytes words.now.items) command
-        → Ends (R.tells rack.new) (facts_of S.Source K.Sink R.Rack source.old source.new sink.old sink.new rack.old rack.new) command result }
+        → Ends (R.steady rack.old) (R.tells rack.new) (facts_of S.Source K.Sink R.Rack source.old source.new sink.old sink.new rack.old rack.new) command result }
 
     // The usage line is printed exactly where the words are no command, and nothing else is done then.
     ensures usage { result ≡ Status.Usage → AreNoCommand (map string_bytes words.now.items) }
@@ -164,7 +164,7 @@ pub fn run<S: Source, K: Sink, R: Rack>(
     // Where neither the source nor the sink fails, each command does what it is asked for, or says why it can't; or memory is wanting.
     ensures complete { (command : Command) → IsCommand (map string_bytes words.now.items) command
         → (Rose (S.faults source.old) (S.faults source.new) → ⊥) → (Rose (K.faults sink.old) (K.faults sink.new) → ⊥)
-        → Completes (facts_of S.Source K.Sink R.Rack source.old source.new sink.old sink.new rack.old rack.new) command result }
+        → Completes (R.tells rack.new) (facts_of S.Source K.Sink R.Rack source.old source.new sink.old sink.new rack.old rack.new) command result }
 {
     image_has_one_answer();
     match command(alloc, words) {

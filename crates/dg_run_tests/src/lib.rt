@@ -14,6 +14,8 @@ mod regroup_tests;
 #[cfg(test)]
 mod runs;
 #[cfg(test)]
+mod safe_tests;
+#[cfg(test)]
 mod tests;
 #[cfg(test)]
 mod uses;

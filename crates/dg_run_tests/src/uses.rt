@@ -3,8 +3,8 @@ use crate::tests::{rack_of, sink_of, source_of, words_of};
 use dg_run::Status;
 use dg_uses::{
     audit_a_blank_array, fail_at_the_first_reply, fail_at_the_second_read, find_no_array,
-    lose_a_block, read_past_a_failure, read_what_was_written, refuse_an_empty_image,
-    refuse_the_second_line, save_and_resume,
+    keep_what_was_written, lose_a_block, read_past_a_failure, read_what_was_written,
+    refuse_an_empty_image, refuse_behind_safe, refuse_the_second_line, save_and_resume,
 };
 use std::test::Fail;
 
@@ -45,6 +45,22 @@ fn a_second_line_is_refused(rt: HostRuntime) -> Result<(), Fail> {
     let end = refuse_the_second_line(rt.alloc())?;
     assert_eq!(rt; end.status, Status::BadLine);
     assert!(rt; end.sink.taken() == "ok\nline 2 word\n".as_bytes());
+    Ok(())
+}
+
+#[test]
+fn a_line_behind_safe_is_refused(rt: HostRuntime) -> Result<(), Fail> {
+    let end = refuse_behind_safe(rt.alloc())?;
+    assert_eq!(rt; end.status, Status::BadLine);
+    assert!(rt; end.sink.taken() == "ok\nline 2 word\n".as_bytes());
+    Ok(())
+}
+
+#[test]
+fn a_written_block_is_kept(rt: HostRuntime) -> Result<(), Fail> {
+    let end = keep_what_was_written(rt.alloc())?;
+    assert_eq!(rt; end.status, Status::Done);
+    assert!(rt; end.sink.taken() == "ok\nok\nsaved 1\n".as_bytes());
     Ok(())
 }
 

@@ -1,5 +1,5 @@
 -- By how many calls the texts of a saved array are printed.
-use Rattle.std.proofs.Common.{◌≡◌, ◌≤◌, ℕ, ◌++◌, arith, refl, subst}
+use Rattle.std.proofs.Common.{◌≡◌, ◌≤◌, ℕ, List, ◌++◌, arith, refl, subst}
 use Rattle.std.specs.Prelude.{Some, codes}
 use Rattle.std.specs.List.{flat_map, range_with_len}
 use Rattle.dg_io.specs.SinkLines.{feeds_in}
@@ -40,8 +40,8 @@ unclean_feed =
     let one_line : feeds_in unclean_text ≡ 1 = refl in
     omega (arith, one_line)
 
-pub array_feed : (table : Table) (members : ℕ → MemberState) (phase : Phase) → 1 ≤ feeds_in (array_text table members phase)
-array_feed table members phase =
+pub array_feed : (table : Table) (live : List ℕ) (members : ℕ → MemberState) (phase : Phase) → 1 ≤ feeds_in (array_text table live members phase)
+array_feed table live members phase =
     feed_ahead (line_of (Array table.shape))
-    (codes "phase " ++ (phase_word phase ++ (codes "\n" ++ flat_map (boundary_line table members) (range_with_len 0 table.shape.b))))
+    (codes "phase " ++ (phase_word phase ++ (codes "\n" ++ flat_map (boundary_line table live members) (range_with_len 0 table.shape.b))))
     (feed_last (spelling (Array table.shape)))

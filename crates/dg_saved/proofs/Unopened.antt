@@ -1,10 +1,11 @@
 -- A command that opened no array.
 use Rattle.std.proofs.Common.{◌≡◌, ◌≢◌, ◌⊎◌, ℕ, List, refl, inl, inr}
 use Rattle.std.specs.Prelude.{Bool}
+use Rattle.dg_io.specs.declared.outside.Rack.{Ghosts}
 use Rattle.dg_model.specs.declared.events.Event.{Event}
 use Rattle.dg_model.specs.declared.replies.Reply.{Reply}
 use Rattle.dg_saved.specs.Calls.{Facts}
-use Rattle.dg_saved.specs.Ends.{EndsEvent, EndsStatus, EndsUnopened, Printed, PrintedPart}
+use Rattle.dg_saved.specs.Ends.{EndsUnopened, EventOnce, Printed, PrintedPart, StatusOnce}
 use Rattle.dg_saved.specs.Saved.{FoundNoState, FoundUnclean}
 use Rattle.dg_saved.specs.Texts.{nostate_text, unclean_text}
 use Rattle.dg_saved.specs.declared.ends.SavedEnd.{SavedEnd}
@@ -26,16 +27,17 @@ unclean_ends facts NoState is told part found = elim is [ inl e ↦ absurd (cc e
 unclean_ends facts Unclean is told part found = (found, told (λ e. cc e))
 unclean_ends facts WriteFault is told part found = inr (found, part refl)
 
-pub event_unopened : (tells : ℕ → Type 0) (facts : Facts) (event : Event) (text : Reply → List ℕ) (gives : Reply → Bool) (end : SavedEnd) → EndsUnopened facts end → EndsEvent tells facts event text gives end
-event_unopened tells facts event text gives Done h = absurd h
-event_unopened tells facts event text gives Refused h = absurd h
-event_unopened tells facts event text gives NoState h = h
-event_unopened tells facts event text gives Unclean h = h
-event_unopened tells facts event text gives WriteFault h = inl h
+pub event_unopened : {R : Type 0} (rack : Ghosts R) (before now : R) (facts : Facts) (event : Event) (text : Reply → List ℕ) (gives : Reply → Bool) (end : SavedEnd)
+    → EndsUnopened facts end → EventOnce rack before now facts event text gives end
+event_unopened rack before now facts event text gives Done h = absurd h
+event_unopened rack before now facts event text gives Refused h = absurd h
+event_unopened rack before now facts event text gives NoState h = (h, tt)
+event_unopened rack before now facts event text gives Unclean h = (h, tt)
+event_unopened rack before now facts event text gives WriteFault h = (inl h, tt)
 
-pub status_unopened : (tells : ℕ → Type 0) (facts : Facts) (end : SavedEnd) → EndsUnopened facts end → EndsStatus tells facts end
-status_unopened tells facts Done h = absurd h
-status_unopened tells facts Refused h = absurd h
-status_unopened tells facts NoState h = h
-status_unopened tells facts Unclean h = h
-status_unopened tells facts WriteFault h = inl h
+pub status_unopened : {R : Type 0} (rack : Ghosts R) (before now : R) (facts : Facts) (end : SavedEnd) → EndsUnopened facts end → StatusOnce rack before now facts end
+status_unopened rack before now facts Done h = absurd h
+status_unopened rack before now facts Refused h = absurd h
+status_unopened rack before now facts NoState h = (h, tt)
+status_unopened rack before now facts Unclean h = (h, tt)
+status_unopened rack before now facts WriteFault h = (inl h, tt)

@@ -2,6 +2,7 @@
 use Rattle.std.specs.Prelude.{◌+◌, ◌*◌, ◌++◌, ℕ, Bool, true, false, List, codes}
 use Rattle.std.specs.Fmt.{decimal}
 use Rattle.std.specs.List.{concat, flat_map, range_with_len}
+use Rattle.dg_model.specs.Lives.{boundary_at}
 use Rattle.dg_model.specs.States.{State}
 use Rattle.dg_model.specs.Tables.{Table, used_in}
 use Rattle.dg_model.specs.declared.events.Event.TheVariants.{Array}
@@ -44,21 +45,22 @@ pair_words Out Good = codes "half 1"
 pair_words Out (Filling have) = codes "lost 0"
 pair_words Out Out = codes "lost 0"
 
--- the line of boundary s: its number, what its members do, and how many of its slots are used
-abbrev pub boundary_line : Table → (ℕ → MemberState) → ℕ → List ℕ
-boundary_line table members s =
-    codes "boundary " ++ (decimal s
-    ++ (codes " " ++ (pair_words (members (2 * s)) (members (2 * s + 1)) ++ (codes " " ++ (decimal (used_in table s) ++ codes "\n")))))
+-- the line of the boundary at place x of those in use: its number in the array's first line, what its members do, and how many of its slots are used
+abbrev pub boundary_line : Table → List ℕ → (ℕ → MemberState) → ℕ → List ℕ
+boundary_line table live members x =
+    codes "boundary " ++ (decimal (boundary_at live x)
+    ++ (codes " " ++ (pair_words (members (2 * x)) (members (2 * x + 1)) ++ (codes " " ++ (decimal (used_in table x) ++ codes "\n")))))
 
--- the lines of an array with these sites, whose members do this, in this phase: its numbers, the phase, and the boundaries in ascending order
-abbrev pub array_text : Table → (ℕ → MemberState) → Phase → List ℕ
-array_text table members phase =
+-- The lines of an array with these sites, of which these boundaries are in use, whose members do this, in this phase: its numbers, with that of the
+-- boundaries in use; the phase; and the boundaries in use, in ascending order.
+abbrev pub array_text : Table → List ℕ → (ℕ → MemberState) → Phase → List ℕ
+array_text table live members phase =
     line_of (Array table.shape)
-    ++ (codes "phase " ++ (phase_word phase ++ (codes "\n" ++ flat_map (boundary_line table members) (range_with_len 0 table.shape.b))))
+    ++ (codes "phase " ++ (phase_word phase ++ (codes "\n" ++ flat_map (boundary_line table live members) (range_with_len 0 table.shape.b))))
 
 -- what `status` prints of a state
 abbrev pub status_text : State → List ℕ
-status_text state = array_text state.table state.members state.phase
+status_text state = array_text state.table state.live state.members state.phase
 
 -- ---- files and directories
 

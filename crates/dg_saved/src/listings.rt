@@ -4,7 +4,7 @@ ghost use Rattle.dg_io.specs.SinkLines.{LeavesLines};
 ghost use Rattle.dg_model.specs.Causes.{Rose};
 ghost use Rattle.dg_model.specs.declared.events.Event.{Event};
 ghost use Rattle.dg_saved.specs.Calls.{facts_of};
-ghost use Rattle.dg_saved.specs.Ends.{EndsLs, LeavesSaved};
+ghost use Rattle.dg_saved.specs.Ends.{EventOnce, LeavesSaved};
 ghost use Rattle.dg_saved.specs.Serves.{EndsServed};
 ghost use Rattle.dg_saved.specs.Texts.{gives_listing, ls_text};
 ghost use Rattle.dg_volume.specs.Volumes.{IsWell, Leaves, any_phase};
@@ -13,9 +13,9 @@ ghost use Rattle.ufs_model.specs.Paths.{is_path};
 use crate::ends::{Ended, SavedEnd};
 use crate::replies::tell_nothing;
 use crate::unsaved::tell_unopened;
-use dg_io::{NoMemory, Rack, Sink};
+use dg_io::{Checkpoint, NoMemory, Rack, Sink};
 use dg_text::{Form, Lines};
-use dg_volume::{AnyPhase, CatAnswer, OpenAnswer, Volume, open};
+use dg_volume::{AnyPhase, CatAnswer, OpenAnswer, Volume, open_kept};
 use std::alloc::Global;
 
 /// Prints the entries of the directory at a path as lines, and their number; of a listing that was cut its entries alone; or the reply that says
@@ -45,20 +45,22 @@ fn serve_ls<K: Sink, R: Rack>(
     }
 }
 
-/// Opens the saved array, and prints the entries of the directory at a path, one a line, and their number. Another reply is printed as a line;
-/// after a cut nothing more is printed than the entries that were read.
-pub fn ls_saved<K: Sink, R: Rack + Drop>(
+/// Opens the saved array with the extra bytes that the rack keeps beside it, and prints the entries of the directory at a path, one a line, and their
+/// number. Another reply is printed as a line; after a cut nothing more is printed than the entries that were read.
+pub fn ls_saved<K: Sink, R: Checkpoint + Drop>(
     alloc: Global,
     path: &[u8],
     sink: &mut K,
     rack: R,
+    extra: &[u8],
 ) -> Result<Ended<R>, NoMemory>
     requires path { is_path path.now ≡ true }
-    ensures ends { IfOk result (λ ended. EndsLs (R.tells ended.rack) (facts_of K.Sink R.Rack sink.old sink.new rack ended.rack) path.now ended.end) }
+    ensures ends { IfOk result (λ ended. EventOnce R.Rack rack ended.rack (facts_of K.Sink R.Rack R.room_of extra.now sink.old sink.new rack ended.rack)
+        (Event.Ls path.now) ls_text gives_listing ended.end) }
     ensures none { OnErr result (sink.new ≡ sink.old) }
     ensures leaves { IfOk result (λ ended. LeavesSaved 255 K.Sink R.Rack sink.old sink.new rack ended.rack ended.end) }
 {
-    match open(alloc, rack)? {
+    match open_kept(alloc, rack, extra)? {
         OpenAnswer::Opened(mut volume, _) => {
             let end = serve_ls(path, sink, &mut volume);
             Ok(Ended {

@@ -3,7 +3,7 @@ ghost use Rattle.std.specs.Prelude.{◌≡◌, ◌<◌, ◌++◌, codes, IfOk, O
 ghost use Rattle.std.specs.Fmt.{decimal};
 ghost use Rattle.std.specs.List.{flat_map, range_with_len};
 ghost use Rattle.dg_saved.specs.Texts.{array_text, boundary_line, pair_words, phase_word};
-ghost use Rattle.dg_volume.specs.Volumes.{IsWell, any_phase, members_of, phase_of, shape_of, table_of};
+ghost use Rattle.dg_volume.specs.Volumes.{IsWell, any_phase, live_of, members_of, phase_of, shape_of, table_of};
 
 use dg_io::{NoMemory, Rack};
 use dg_model::{Event, MemberState, Phase};
@@ -66,7 +66,7 @@ fn push_pair(text: &mut Vec<u8>, first: MemberState, second: MemberState) -> Res
     }
 }
 
-/// Appends the line of a boundary, by its place among those in use.
+/// Appends the line of a boundary under its own number, by its place among those in use.
 fn push_boundary<R: Rack>(
     text: &mut Vec<u8>,
     volume: &Volume<AnyPhase, R>,
@@ -74,25 +74,25 @@ fn push_boundary<R: Rack>(
 ) -> Result<(), NoMemory>
     requires well { IsWell any_phase R.Rack volume.now }
     requires boundary { s < (shape_of volume.now).b }
-    ensures { OnOk result (text.new.items ≡ text.old.items ++ boundary_line (table_of volume.now) (members_of volume.now) s) }
+    ensures { OnOk result (text.new.items ≡ text.old.items ++ boundary_line (table_of volume.now) (live_of volume.now) (members_of volume.now) s) }
 {
     let number = volume.live()[s as usize];
     let boundary = volume.boundary(number);
-    push_words(text, b"boundary ", s as u32)?;
+    push_words(text, b"boundary ", number as u32)?;
     push(text, b" ")?;
     push_pair(text, boundary.member(0), boundary.member(1))?;
     push_words(text, b" ", volume.used(number))?;
     push(text, b"\n")
 }
 
-/// Appends the lines of all boundaries, in ascending order.
+/// Appends the lines of all boundaries in use, in ascending order.
 fn push_boundaries<R: Rack>(
     text: &mut Vec<u8>,
     volume: &Volume<AnyPhase, R>,
 ) -> Result<(), NoMemory>
     requires { IsWell any_phase R.Rack volume.now }
     ensures { OnOk result (text.new.items ≡ text.old.items
-        ++ flat_map (boundary_line (table_of volume.now) (members_of volume.now)) (range_with_len 0 (shape_of volume.now).b)) }
+        ++ flat_map (boundary_line (table_of volume.now) (live_of volume.now) (members_of volume.now)) (range_with_len 0 (shape_of volume.now).b)) }
 {
     for s in 0..volume.shape().b {
         push_boundary(text, volume, s)?;
@@ -103,7 +103,7 @@ fn push_boundaries<R: Rack>(
 /// The lines that tell of an array's state.
 pub fn text_of<R: Rack>(alloc: Global, volume: &Volume<AnyPhase, R>) -> Result<Vec<u8>, NoMemory>
     requires { IsWell any_phase R.Rack volume.now }
-    ensures { IfOk result (λ text. text.items ≡ array_text (table_of volume.now) (members_of volume.now) (phase_of any_phase volume.now)) }
+    ensures { IfOk result (λ text. text.items ≡ array_text (table_of volume.now) (live_of volume.now) (members_of volume.now) (phase_of any_phase volume.now)) }
 {
     let mut text = write_event(alloc, &Event::Array(*volume.shape()))?;
     push(&mut text, b"\n")?;

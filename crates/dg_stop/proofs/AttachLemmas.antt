@@ -1,10 +1,9 @@
 -- What is kept in memory of the members that an opening attaches: marks of all members, and copies of where their pages stand.
-use Rattle.std.proofs.Common.{◌≡◌, ◌≤◌, ◌<◌, ◌+◌, ◌++◌, ◌∷◌, ℕ, Bool, true, false, List, [], length, replicate, refl, sym, ◌∙◌, ap, arith, inl, inr, subst, length-append}
-use Rattle.std.specs.Prelude.{◌&&◌, ◌||◌, not, Option, Some, None, is_some, slice_get, slice_set}
+use Rattle.std.proofs.Common.{◌≡◌, ◌≤◌, ◌<◌, ◌+◌, ◌++◌, ◌∷◌, ℕ, Bool, true, false, List, [], length, refl, sym, ◌∙◌, ap, arith, inl, inr, subst, length-append}
+use Rattle.std.specs.Prelude.{◌&&◌, not, Option, Some, None, is_some, slice_get, slice_set}
 use Rattle.std.proofs.lemmas.Bool.{false≢true}
 use Rattle.std.proofs.lemmas.List.{get_or-set_other, get_or-set_same, get_or_past, length-set}
 use Rattle.std.proofs.lemmas.Option.{slice_get-get_or, slice_get_past}
-use Rattle.dg_stop.proofs.CommitMembers.{none_flag}
 use Rattle.dg_stop.proofs.Committing.{same_or_not}
 use Rattle.dg_stop.proofs.OneCommit.{lt_or}
 use Rattle.dg_stop.proofs.TableLemmas.{push_get}
@@ -59,14 +58,6 @@ prepared_high heads size q high = ap is_prepared (no_head heads q size high)
 
 pub standing_high : (heads : List (Option Header)) (served serves : List Bool) → length heads ≡ 32 → (q : ℕ) → 32 ≤ q → (is_some (head_at heads q) && not (fell_now served serves q)) ≡ false
 standing_high heads served serves size q high = ap (λ (h : Option Header). is_some h && not (fell_now served serves q)) (no_head heads q size high)
-
--- where none served none fell
-or_none : (k f : Bool) → f ≡ false → (not k || f) ≡ not k
-or_none true f off = off
-or_none false f off = refl
-
-pub none_fell : (known : List Bool) (q : ℕ) → (not (flag_in known q) || fell_now (replicate 32 false) (replicate 32 false) q) ≡ not (flag_in known q)
-none_fell known q = or_none (flag_in known q) (fell_now (replicate 32 false) (replicate 32 false) q) (ap (λ (b : Bool). b && not b) (none_flag 32 q))
 
 -- ---- copies
 

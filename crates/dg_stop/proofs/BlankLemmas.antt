@@ -13,7 +13,7 @@ use Rattle.dg_stop.proofs.Committing.{same_or_not}
 use Rattle.dg_stop.proofs.OneCommit.{same_at, told_both}
 use Rattle.dg_stop.proofs.Paging.{at_seen, size_seen}
 use Rattle.dg_stop.proofs.Renewing.{IsElsewhere, renewed_guards, renewed_keeps}
-use Rattle.dg_stop.proofs.StepLemmas.{if_known, long_same, ok_on, seen_others, seen_told}
+use Rattle.dg_stop.proofs.StepLemmas.{if_known, long_same, ok_on, seen_others, seen_told, standing_by}
 use Rattle.dg_stop.specs.DoubleLaws.{alone_after, seen_some, some_seen}
 use Rattle.dg_stop.specs.Doubles.{AreHeld, IsBeside, Joins, KeepsOthers, Lays, Loses, Steps, fell_in, keeps_in, known_in, seen_in, sizes_in, stands_in}
 use Rattle.dg_stop.specs.Headers.{Header, HasHeader, header_bytes}
@@ -147,7 +147,7 @@ gone_bare q n few fell gone = elim (below_or q 32) [
 module _ {S T E : Type 0} (rack : Ghosts S) (q : ℕ) (result : Result T E) (m n : Memory) (a b : S) (held : AreHeld rack m a)
     (leaves : Leaves rack q result a b) (after : After rack (blanks q ∷ []) a b) (beside : IsBeside q m n)
     (own : stands_in n q ≡ true → Sized rack n.current.items n.room q b) (bare : stands_in n q ≡ false → fell_in n q ≡ false → sizes_in n q ≡ 0)
-    (pair : stands_in n q ≡ true → length (bits_in n.last.items q) ≡ bits_of (sizes_in n q)) (ok : OnOk result (stands_in n q ≡ true)) where
+    (pair : stands_in n q ≡ true → length (bits_in n.last.items q) ≡ bits_of (sizes_in n q)) (ok : OnOk result (stands_in n q ≡ true)) (known : stands_in n q ≡ true → known_in n q ≡ true) where
   other_sized : (r : ℕ) → r ≢ q → stands_in n r ≡ true → Sized rack n.current.items n.room r b
   other_sized r far at =
       let old : Sized rack m.current.items m.room r a = held.sized r (sym (beside.stands r far) ∙ at) in
@@ -188,6 +188,11 @@ module _ {S T E : Type 0} (rack : Ghosts S) (q : ℕ) (result : Result T E) (m n
     rise = after.rise;
     disks = after.disks_after;
     room = beside.room;
+    known_on = ok_on result (stands_in n q ≡ true) (known_in m q ≡ true → known_in n q ≡ true) (λ at h. known at) ok;
+    others_known = beside.known;
+    fell_on = λ look. absurd (look refl);
+    others_fell = beside.fell;
+    standing = standing_by q m n beside (λ are. known);
   }
 
 long_zeros : (n : ℕ) (x y : Option (List ℕ)) → Told (IsZeros n) x y → IfSome y (λ all. length all ≡ n)

@@ -122,6 +122,11 @@ module _ {E : Type 0} (m : Memory) (q : ℕ) (x : Option (List ℕ)) where
 below_or : (k n : ℕ) → (k < n) ⊎ (n ≤ k)
 below_or k n = grind arith
 
+-- a member that isn't found because it fell
+pub fallen_or : {T E : Type 0} (r : Result T E) (P Q R : Type 0) → OnErr r (Q × R) → OnErr r (P ⊎ R)
+fallen_or (Ok x) P Q R is = tt
+fallen_or (Err x) P Q R is = inr is.1
+
 -- what an extend leaves of the bytes
 module _ {T E : Type 0} (m n : Memory) (q k : ℕ) (x : Option (List ℕ)) where
   pub extend_ok : (r : Result T E) → OnOk r (n ≡ m) → (sizes_in m q < k → IsErr r) → IfSome (seen_in m q x) (λ all. length all ≤ k) → OnOk r (Told (Extended k) (seen_in m q x) (seen_in n q x))

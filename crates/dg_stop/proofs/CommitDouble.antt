@@ -96,15 +96,23 @@ still_out : (fell stands : Bool) → stands ≡ false → (if fell then false el
 still_out true stands out = refl
 still_out false stands out = out
 
+stood_by : (fell stands : Bool) → (if fell then false else stands) ≡ true → stands ≡ true
+stood_by true stands at = absurd (false≢true at)
+stood_by false stands at = at
+
 -- what the commit may leave of it
-pub commits_behind : {R : Type 0} (rack : Ghosts R) (served serves : List Bool) (old new : Double R) → LeavesMembers rack served serves old.memory new.memory old.rack new.rack → CommitsBehind rack old new
-commits_behind rack served serves old new leaves = record {
+pub commits_behind : {R : Type 0} (rack : Ghosts R) (served serves : List Bool) (old new : Double R) → LeavesMembers rack served serves old.memory new.memory old.rack new.rack
+    → Faults served serves old.tally new.tally → CommitsBehind rack old new
+commits_behind rack served serves old new leaves faults = record {
   rise = leaves.rise;
+  own = record { faults = λ q. (faults.members q).later; calls = omega (arith, faults.calls); writes = omega (arith, faults.writes) };
   alone = λ q out. (leaves.alone q out, leaves.stands q ∙ still_out (fell_now served serves q) (stands_in old.memory q) out);
   room = leaves.room;
   same_rack = leaves.same_rack;
   told_before = leaves.told_before;
   same = leaves.same;
+  known = leaves.known;
+  stood = λ q at. stood_by (fell_now served serves q) (stands_in old.memory q) (sym (leaves.stands q) ∙ at);
 }
 
 -- ---- plain or double

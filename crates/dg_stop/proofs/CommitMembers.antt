@@ -174,6 +174,7 @@ module _ (served serves : List Bool) (commit top : ℕ) (m n : Memory) (is : Com
       rise = after.rise;
       disks = record { rises = after.disks_after.rises; stays = λ s j was. after.disks_after.stays s j (no_blank s) was };
       room = is.room;
+      known = is.known;
     }
 
 -- ---- what is kept
@@ -391,4 +392,5 @@ module _ {S : Type 0} (rack : Ghosts S) (served serves : List Bool) (m n : Memor
       stays = λ s j was. was;
     };
     room = is.room;
+    known = is.known;
   }

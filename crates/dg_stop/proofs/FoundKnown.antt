@@ -25,7 +25,7 @@ pub some_or : (P : List ℕ → Type 0) (x : Option (List ℕ)) → IfSome x P �
 some_or P None h is = absurd (false≢true is)
 some_or P (Some l) h is = h
 
-module _ {S : Type 0} (rack : Ghosts S) (found : List Found) (known : List Bool) (old mid : S) (so : AreFound rack 32 found known old mid) (memory : Memory) (same : memory.known ≡ known)
+module _ {S : Type 0} (rack : Ghosts S) (found : List Found) (known failed : List Bool) (old mid : S) (so : AreFound rack 32 found known failed old mid) (memory : Memory) (same : memory.known ≡ known)
     (count : length known ≡ 32) where
   pub same_read : (q : ℕ) → Told IsSame (rack.bytes old q) (rack.bytes mid q)
   same_read q = elim (lt_or q 32) [ inl low ↦ (so.below q low).same | inr high ↦ (so.rest q high).same ]
@@ -56,5 +56,5 @@ module _ {S : Type 0} (rack : Ghosts S) (found : List Found) (known : List Bool)
 
     pub had_of : (q : ℕ) (h : Header) → IsIn h (found_at found q) → HasHeader q (known_at (known_in memory) (rack.bytes old) q) (header_of h)
     had_of q h isin =
-        let is = known_found rack found known old mid so q h isin in
+        let is = known_found rack found known failed old mid so q h isin in
         (headers_before q (known_is q ∙ is.1) h).0 isin

@@ -139,12 +139,13 @@ module _ {S : Type 0} (rack : Ghosts S) (q : ℕ) (m n : Memory) (a : S) (held :
   bare : stands_in n q ≡ false → fell_in n q ≡ false → sizes_in n q ≡ 0
   bare out gone = gone_bare q n (omega (arith, held.few, falls.beside.count)) falls.fell gone
 
-  ok_never : {T E : Type 0} (r : Result T E) → IsErr r → OnOk r (stands_in n q ≡ stands_in m q)
-  ok_never (Ok x) is = absurd (false≢true is)
-  ok_never (Err x) is = tt
+  ok_never : {T E : Type 0} (r : Result T E) (P : Type 0) → IsErr r → OnOk r P
+  ok_never (Ok x) P is = absurd (false≢true is)
+  ok_never (Err x) P is = tt
 
   pub fall_steps : {T E : Type 0} (call : RackCall) (result : Result T E) → IsErr result → Steps rack call q result m n a a
-  fall_steps call result is = still_steps rack call q result m n a held falls.beside falls.placed.now falls.placed.last (falls_stands q m n falls) (ok_never result is) bare
+  fall_steps call result is = still_steps rack call q result m n a held falls.beside falls.placed.now falls.placed.last (falls_stands q m n falls) (ok_never result (stands_in n q ≡ stands_in m q) is) bare
+      (ok_never result (known_in n q ≡ known_in m q) is) (λ are at. absurd (false≢true (sym falls.stands ∙ at))) (ok_never result (fell_in n q ≡ fell_in m q) is)
 
   pub fall_keeps : KeepsStill rack m n a a
   fall_keeps = still_keeps rack m n a (falls_less q m n falls)
@@ -179,7 +180,12 @@ module _ {S T E : Type 0} (rack : Ghosts S) (none : (s : S) → rack.made s [] s
 
   pub done_steps : IsOk result → Steps rack (calls q) q result m mid a b
   done_steps done = calls_steps rack q result m mid a b held stand only after serves pages is.beside is.size is.bits (ap (λ (v : Vec Places). bits_in v.items q) is.last) (ok_of result) (err_of result done) (λ out. absurd (false≢true (sym out ∙ still)))
+      (flag_same mid.known m.known q is.known) (stay_of result)
     where
+      stay_of : (r : Result T E) → OnOk r (fell_in mid q ≡ fell_in m q)
+      stay_of (Ok x) = flag_same mid.fell m.fell q is.fell
+      stay_of (Err x) = tt
+
       ok_of : (r : Result T E) → OnOk r (stands_in mid q ≡ true)
       ok_of (Ok x) = still
       ok_of (Err x) = tt
@@ -199,8 +205,12 @@ module _ {S T E : Type 0} (rack : Ghosts S) (none : (s : S) → rack.made s [] s
     failed_steps failed = calls_steps rack q result m n a b held stand only after serves pages (beside_then q m mid n is.beside falls.beside)
         (ap (λ (v : Vec Places). size_in v.items q) falls.placed.now ∙ is.size) (ap (λ (v : Vec Places). length (bits_in v.items q)) falls.placed.now ∙ is.bits)
         (ap (λ (v : Vec Places). bits_in v.items q) (falls.placed.last ∙ is.last))
-        (ok_of result failed) (err_of result) (λ out. falls.fell there)
+        (ok_of result failed) (err_of result) (λ out. falls.fell there) (falls.known ∙ flag_same mid.known m.known q is.known) (stay_of result failed)
       where
+        stay_of : (r : Result T E) → IsErr r → OnOk r (fell_in n q ≡ fell_in m q)
+        stay_of (Ok x) err = absurd (false≢true err)
+        stay_of (Err x) err = tt
+
         ok_of : (r : Result T E) → IsErr r → OnOk r (stands_in n q ≡ true)
         ok_of (Ok x) err = absurd (false≢true err)
         ok_of (Err x) err = tt
@@ -254,12 +264,12 @@ torn_none m n q place k x falls = fall_seen IsSame (Torn place k) q m n x x fall
 -- ---- a member that is read from memory, or not called at all
 
 module _ {S T E : Type 0} (rack : Ghosts S) (call : RackCall) (q : ℕ) (result : Result T E) (m : Memory) (a : S) (held : AreHeld rack m a) where
-  same_ok : (r : Result T E) → OnOk r (stands_in m q ≡ stands_in m q)
-  same_ok (Ok x) = refl
-  same_ok (Err x) = tt
+  same_ok : (r : Result T E) (b : Bool) → OnOk r (b ≡ b)
+  same_ok (Ok x) b = refl
+  same_ok (Err x) b = tt
 
   pub idle_steps : Steps rack call q result m m a a
-  idle_steps = still_steps rack call q result m m a held (beside_self q m) refl refl (λ r at. at) (same_ok result) (held.bare q)
+  idle_steps = still_steps rack call q result m m a held (beside_self q m) refl refl (λ r at. at) (same_ok result (stands_in m q)) (held.bare q) (same_ok result (known_in m q)) (λ are. are q) (same_ok result (fell_in m q))
 
 pub idle_keeps : {S : Type 0} (rack : Ghosts S) (m : Memory) (a : S) → KeepsStill rack m m a a
 idle_keeps rack m a = still_keeps rack m m a (rewrites_less 0 m m (rewrites_self 0 m))

@@ -60,8 +60,8 @@ spot_named t a b all o e = rw e refl
 committed_same : (v : Value) → v.committed ≡ true → v ≡ as_committed v
 committed_same v is = ap (λ (b : Bool). record { sequence = v.sequence; committed = b; member = v.member; size = v.size; room = v.room; extra = v.extra }) is
 
-module _ {S : Type 0} (rack : Ghosts S) (found : List Found) (known : List Bool) (t : Attached) (old mid : S) (so : AreFound rack 32 found known old mid) (are : AreTables rack found mid t)
-    (heads : length t.heads ≡ 32) (top : ℕ) (memory : Memory) (new : S) (at : Attaches rack known top t memory mid new) (count : length known ≡ 32)
+module _ {S : Type 0} (rack : Ghosts S) (found : List Found) (known failed : List Bool) (t : Attached) (old mid : S) (so : AreFound rack 32 found known failed old mid) (are : AreTables rack found mid t)
+    (heads : length t.heads ≡ 32) (top : ℕ) (memory : Memory) (new : S) (at : Attaches rack known failed top t memory mid new) (count : length known ≡ 32)
     (most : (q : ℕ) (h : Header) → IsIn h (found_at found q) → h.sequence ≤ top) (told : TellsKnown (known_in memory) (rack.bytes new)) where
   abbrev c : ℕ
   c = t.lead.sequence
@@ -73,28 +73,28 @@ module _ {S : Type 0} (rack : Ghosts S) (found : List Found) (known : List Bool)
   after q = known_at (known_in memory) (rack.bytes new) q
 
   is_known : (q : ℕ) → known_in memory q ≡ flag_in known q
-  is_known q = known_is rack found known old mid so memory at.known_is count q
+  is_known q = known_is rack found known failed old mid so memory at.known_is count q
 
   low_at : (q : ℕ) → known_in memory q ≡ true → q < 32
-  low_at q on = known_low rack found known old mid so memory at.known_is count q on
+  low_at q on = known_low rack found known failed old mid so memory at.known_is count q on
 
   same_at_read : (q : ℕ) → Told IsSame (rack.bytes old q) (rack.bytes mid q)
-  same_at_read q = same_read rack found known old mid so memory at.known_is count q
+  same_at_read q = same_read rack found known failed old mid so memory at.known_is count q
 
   told_mid : TellsKnown (known_in memory) (rack.bytes mid)
   told_mid q on = at.finished.tells q (told q on)
 
   before_read : (q : ℕ) → known_in memory q ≡ true → before q ≡ bytes_or (rack.bytes mid q)
-  before_read q on = before_mid rack found known old mid so memory at.known_is count told_mid q on
+  before_read q on = before_mid rack found known failed old mid so memory at.known_is count told_mid q on
 
   after_new : (q : ℕ) → known_in memory q ≡ true → after q ≡ bytes_or (rack.bytes new q)
   after_new q on = if_known (known_in memory q) (bytes_or (rack.bytes new q)) on
 
   found_in : (q : ℕ) (v : Value) → HasHeader q (before q) v → (known_in memory q ≡ true) × IsIn (code_of v) (found_at found q)
-  found_in q v has = in_of rack found known old mid so memory at.known_is count told_mid q v has
+  found_in q v has = in_of rack found known failed old mid so memory at.known_is count told_mid q v has
 
   had_at : (q : ℕ) (h : Header) → IsIn h (found_at found q) → HasHeader q (before q) (header_of h)
-  had_at q h isin = had_of rack found known old mid so memory at.known_is count told_mid q h isin
+  had_at q h isin = had_of rack found known failed old mid so memory at.known_is count told_mid q h isin
 
   -- ---- the commit that leads
 
@@ -118,7 +118,7 @@ module _ {S : Type 0} (rack : Ghosts S) (found : List Found) (known : List Bool)
 
   attached_head : (q : ℕ) (h : Header) → head_at t.heads q ≡ Some h → IsAttached before c (header_of t.lead) q (header_of h)
   attached_head q h e =
-      let it = attached_at rack found known t old mid so are heads q h e in
+      let it = attached_at rack found known failed t old mid so are heads q h e in
       record { has = had_at q h it.isin; sequence = it.alike.sequence; room = it.alike.room; extra = it.alike.extra }
 
   head_attached : (q : ℕ) (v : Value) → IsAttached before c (header_of t.lead) q v → (h : Header) × (head_at t.heads q ≡ Some h)
@@ -133,12 +133,12 @@ module _ {S : Type 0} (rack : Ghosts S) (found : List Found) (known : List Bool)
   -- ---- what was written
 
   known_at_head : (q : ℕ) (h : Header) → head_at t.heads q ≡ Some h → known_in memory q ≡ true
-  known_at_head q h e = is_known q ∙ (attached_at rack found known t old mid so are heads q h e).is_known
+  known_at_head q h e = is_known q ∙ (attached_at rack found known failed t old mid so are heads q h e).is_known
 
   same_idle : (q : ℕ) → q < 32 → flag_in at.served q ≡ false → after q ≡ before q
   same_idle q low idle = same_at (known_in memory) q (rack.bytes old q) (rack.bytes new q)
       (told_right IsSame (rack.bytes old q) (rack.bytes mid q) (rack.bytes new q) (same_at_read q)
-      ((fate rack found known t old mid so are heads top memory new at count q low).idle idle)) (told q)
+      ((fate rack found known failed t old mid so are heads top memory new at count q low).idle idle)) (told q)
 
   same_high : (q : ℕ) → 32 ≤ q → after q ≡ before q
   same_high q high = same_at (known_in memory) q (rack.bytes old q) (rack.bytes new q)
@@ -150,14 +150,14 @@ module _ {S : Type 0} (rack : Ghosts S) (found : List Found) (known : List Bool)
     | inl low ↦ elim (known_or (flag_in at.served q)) [
       | inr idle ↦ inl (same_idle q low idle)
       | inl served ↦
-          let head = served_head rack found known t old mid so are heads top memory new at count q served in
+          let head = served_head rack found known failed t old mid so are heads top memory new at count q served in
           let on = known_at_head q head.0 head.1.0 in
           inr (
             header_of head.0,
             attached_head q head.0 head.1.0,
             told_at (WritesHeader (as_committed (header_of head.0))) (rack.bytes mid q) (rack.bytes new q) (before q) (after q)
-                (subst (λ v. Told (WritesHeader v) (rack.bytes mid q) (rack.bytes new q)) (head_is rack found known t old mid so are heads top memory new at count q head.0 head.1.0)
-                ((fate rack found known t old mid so are heads top memory new at count q low).wrote (so.steady_on.0 steady) served))
+                (subst (λ v. Told (WritesHeader v) (rack.bytes mid q) (rack.bytes new q)) (head_is rack found known failed t old mid so are heads top memory new at count q head.0 head.1.0)
+                ((fate rack found known failed t old mid so are heads top memory new at count q low).wrote (so.steady_on.0 steady) served))
                 (told q on) (before_read q on) (after_new q on),
           )
     ]
@@ -165,7 +165,7 @@ module _ {S : Type 0} (rack : Ghosts S) (found : List Found) (known : List Bool)
 
   committed_at : (q : ℕ) (h : Header) → head_at t.heads q ≡ Some h → fell_now at.served at.serves q ≡ false → HasHeader q (after q) (as_committed (header_of h))
   committed_at q h e near =
-      let it = attached_at rack found known t old mid so are heads q h e in
+      let it = attached_at rack found known failed t old mid so are heads q h e in
       let on = known_at_head q h e in
       let has = had_at q h it.isin in
       elim (known_or (flag_in at.served q)) [
@@ -176,8 +176,8 @@ module _ {S : Type 0} (rack : Ghosts S) (found : List Found) (known : List Bool)
             let serves = serves_by (flag_in at.served q) (flag_in at.serves q) served near in
             has_written q (as_committed (header_of h)) (before q) (after q) (committed_is (header_of h) has.is) has.own has.long
             (told_at (PutsHeader (as_committed (header_of h))) (rack.bytes mid q) (rack.bytes new q) (before q) (after q)
-            (subst (λ v. Told (PutsHeader v) (rack.bytes mid q) (rack.bytes new q)) (head_is rack found known t old mid so are heads top memory new at count q h e)
-            ((fate rack found known t old mid so are heads top memory new at count q it.low).done serves))
+            (subst (λ v. Told (PutsHeader v) (rack.bytes mid q) (rack.bytes new q)) (head_is rack found known failed t old mid so are heads top memory new at count q h e)
+            ((fate rack found known failed t old mid so are heads top memory new at count q it.low).done serves))
             (told q on) (before_read q on) (after_new q on))
       ]
 
@@ -188,7 +188,7 @@ module _ {S : Type 0} (rack : Ghosts S) (found : List Found) (known : List Bool)
   named_at : (q : ℕ) (h : Header) → head_at t.heads q ≡ Some h → (o : ℕ) → o < h.size
       → names_second (before q) (table_place (header_table (header_of h)) c) (o / 512) ≡ last_in memory q (o / 512)
   named_at q h e o low =
-      let it = attached_at rack found known t old mid so are heads q h e in
+      let it = attached_at rack found known failed t old mid so are heads q h e in
       let on = known_at_head q h e in
       let placed : IsPlaced (header_of h) (bit_in it.held.bits.items) (before q) =
       subst (IsPlaced (header_of h) (bit_in it.held.bits.items)) (sym (before_read q on)) (some_or (IsPlaced (header_of h) (bit_in it.held.bits.items)) (rack.bytes mid q) it.table.placed (told_mid q on)) in
@@ -197,13 +197,13 @@ module _ {S : Type 0} (rack : Ghosts S) (found : List Found) (known : List Bool)
 
   taken : (q : ℕ) → stands_in memory q ≡ true → IsTaken c (header_of t.lead) before after (sizes_in memory q) (last_in memory q) q
   taken q on =
-      let head = standing_at rack found known t old mid so are heads top memory new at count q on in
+      let head = standing_at rack found known failed t old mid so are heads top memory new at count q on in
       let h = head.0 in
       record {
         header = header_of h;
         attached = attached_head q h head.1.0;
         committed = committed_at q h head.1.0 head.1.1;
-        size_is = ap (λ (v : Vec Places). size_in v.items q) at.current ∙ size_at rack found known t old mid so are heads q h head.1.0;
+        size_is = ap (λ (v : Vec Places). size_in v.items q) at.current ∙ size_at rack found known failed t old mid so are heads q h head.1.0;
         named = named_at q h head.1.0;
       }
 
@@ -222,18 +222,18 @@ module _ {S : Type 0} (rack : Ghosts S) (found : List Found) (known : List Bool)
 
   pages_at : (q : ℕ) (h : Header) → head_at t.heads q ≡ Some h → SamePages (header_table (header_of h)) (before q) (after q)
   pages_at q h e =
-      let it = attached_at rack found known t old mid so are heads q h e in
+      let it = attached_at rack found known failed t old mid so are heads q h e in
       let on = known_at_head q h e in
-      let size : sizes_in memory q ≡ h.size = ap (λ (v : Vec Places). size_in v.items q) at.current ∙ size_at rack found known t old mid so are heads q h e in
+      let size : sizes_in memory q ≡ h.size = ap (λ (v : Vec Places). size_in v.items q) at.current ∙ size_at rack found known failed t old mid so are heads q h e in
       let table : table_size (sizes_in memory q) memory.room ≡ header_table (header_of h) = ap (λ (n : ℕ). table_size n memory.room) size ∙ ap (λ (n : ℕ). table_size h.size n) (at.room ∙ sym it.alike.room) in
       subst (λ (n : ℕ). SamePages n (before q) (after q)) table
-      (told_at (SamePages (table_size (sizes_in memory q) memory.room)) (rack.bytes old q) (rack.bytes new q) (before q) (after q) (pages_now rack found known t old mid so are heads top memory new at count q)
+      (told_at (SamePages (table_size (sizes_in memory q) memory.room)) (rack.bytes old q) (rack.bytes new q) (before q) (after q) (pages_now rack found known failed t old mid so are heads top memory new at count q)
       (told q on) (if_known (known_in memory q) (bytes_or (rack.bytes old q)) on) (after_new q on))
 
   -- the bytes of an entry, where its pages stand now
   entry_seen : (q : ℕ) (h : Header) → head_at t.heads q ≡ Some h → entry_of (header_of h) (before q) ≡ seen (header_table (header_of h)) (last_in memory q) h.size (after q)
   entry_seen q h e =
-      let it = attached_at rack found known t old mid so are heads q h e in
+      let it = attached_at rack found known failed t old mid so are heads q h e in
       seen_same (header_table (header_of h)) h.size (names_second (before q) (table_place (header_table (header_of h)) h.sequence)) (last_in memory q) (before q) (after q)
       (λ o low. spot_named (header_table (header_of h)) (names_second (before q) (table_place (header_table (header_of h)) h.sequence)) (last_in memory q) (before q) o
       (subst (λ (n : ℕ). names_second (before q) (table_place (header_table (header_of h)) n) (o / 512) ≡ last_in memory q (o / 512)) (sym it.alike.sequence) (named_at q h e o low))
@@ -241,11 +241,11 @@ module _ {S : Type 0} (rack : Ghosts S) (found : List Found) (known : List Bool)
 
   entry_is : (kept : Kept) → Reopened before kept → (q : ℕ) → stands_in memory q ≡ true → kept.entries q ≡ seen_in memory q (rack.bytes new q)
   entry_is kept had q on =
-      let head = standing_at rack found known t old mid so are heads top memory new at count q on in
+      let head = standing_at rack found known failed t old mid so are heads top memory new at count q on in
       let h = head.0 in
-      let it = attached_at rack found known t old mid so are heads q h head.1.0 in
+      let it = attached_at rack found known failed t old mid so are heads q h head.1.0 in
       let on_it = known_at_head q h head.1.0 in
-      let size : h.size ≡ sizes_in memory q = sym (ap (λ (v : Vec Places). size_in v.items q) at.current ∙ size_at rack found known t old mid so are heads q h head.1.0) in
+      let size : h.size ≡ sizes_in memory q = sym (ap (λ (v : Vec Places). size_in v.items q) at.current ∙ size_at rack found known failed t old mid so are heads q h head.1.0) in
       (by_last kept had).attached q (header_of h) (attached_head q h head.1.0)
       ∙ ap (λ (l : List ℕ). Some l)
       (entry_seen q h head.1.0 ∙ seen_sized h.size h.room (sizes_in memory q) memory.room (last_in memory q) (after q) size (it.alike.room ∙ sym at.room)
@@ -257,7 +257,7 @@ module _ {S : Type 0} (rack : Ghosts S) (found : List Found) (known : List Bool)
   entry_none kept had q out near = (by_last kept had).others q (λ v is.
       let head = head_attached q v is in
       let low = low_at q (found_in q v is.has).0 in
-      none_head (head_at t.heads q) head.0 (absent_at rack found known t old mid so are heads top memory new at count q low out near).0 head.1)
+      none_head (head_at t.heads q) head.0 (absent_at rack found known failed t old mid so are heads top memory new at count q low out near) head.1)
     where
       none_head : (o : Option Header) (h : Header) → o ≡ None → o ≡ Some h → ⊥
       none_head None h a b = none_some h b
@@ -267,7 +267,7 @@ module _ {S : Type 0} (rack : Ghosts S) (found : List Found) (known : List Bool)
   extra_is kept had =
       let h = are.some.0 in
       let is = are.some.1 in
-      let it = attached_at rack found known t old mid so are heads is.member h is.at in
+      let it = attached_at rack found known failed t old mid so are heads is.member h is.at in
       let on = known_at_head is.member h is.at in
       let read = subst (λ (q : ℕ). IfSome (rack.bytes mid q) (λ all. t.extra.items ≡ extra_of (header_of h) all)) it.bears.own (are.first h is).1 in
       some_or (λ all. t.extra.items ≡ extra_of (header_of h) all) (rack.bytes mid is.member) read (told_mid is.member on)
@@ -307,7 +307,7 @@ module _ {S : Type 0} (rack : Ghosts S) (found : List Found) (known : List Bool)
         (subst (λ (x : ℕ). AreGuarded (stands_in memory) (sizes_in memory) t.lead.room (last_in memory) x memory.top after) (sym at.commit)
         (subst (λ (x : ℕ). AreGuarded (stands_in memory) (sizes_in memory) t.lead.room (last_in memory) c x after) (sym at.top_is) (opens steady).0.guarded));
     low = omega (arith, at.commit, at.top_is, most are.leads.member t.lead are.leads.is.is);
-    known = λ q on. let head = standing_at rack found known t old mid so are heads top memory new at count q on in known_at_head q head.0 head.1.0;
+    known = λ q on. let head = standing_at rack found known failed t old mid so are heads top memory new at count q on in known_at_head q head.0 head.1.0;
     numbers = low_at;
   }
 
@@ -334,9 +334,9 @@ module _ {S : Type 0} (rack : Ghosts S) (found : List Found) (known : List Bool)
     same_unknown q out = elim (lt_or q 32) [
       | inr high ↦ (at.finished.rest q high).bytes
       | inl low ↦ elim (known_or (flag_in at.served q)) [
-        | inr idle ↦ (fate rack found known t old mid so are heads top memory new at count q low).idle idle
+        | inr idle ↦ (fate rack found known failed t old mid so are heads top memory new at count q low).idle idle
         | inl served ↦
-            let head = served_head rack found known t old mid so are heads top memory new at count q served in
+            let head = served_head rack found known failed t old mid so are heads top memory new at count q served in
             absurd (false≢true (sym out ∙ known_at_head q head.0 head.1.0))
       ]
     ]

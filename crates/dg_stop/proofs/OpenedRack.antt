@@ -12,17 +12,18 @@ use Rattle.dg_io.specs.RackWords.{After, MadeOnly}
 use Rattle.dg_io.specs.Told.{IsSame, StillTold, Told}
 use Rattle.dg_io.specs.declared.outside.Rack.{Ghosts}
 use Rattle.dg_model.specs.Causes.{Rose}
+use Rattle.dg_stop.proofs.FindLemmas.{some_on}
 use Rattle.dg_stop.proofs.Frames.{some_map, told_both_pages, told_same_pages}
 use Rattle.dg_stop.proofs.OneCommit.{lt_or}
 use Rattle.dg_stop.proofs.PhaseLemmas.{told_right}
-use Rattle.dg_stop.proofs.ReadLemmas.{head_in, known_in as known_found, known_or}
+use Rattle.dg_stop.proofs.ReadLemmas.{had_bare, head_in, known_in as known_found, known_or, told_first}
 use Rattle.dg_stop.proofs.StepLemmas.{long_same}
 use Rattle.dg_stop.specs.Commits.{WritesHeader, as_committed}
 use Rattle.dg_stop.specs.DoubleCommits.{fell_now}
-use Rattle.dg_stop.specs.DoubleOpenings.{Attaches, LeavesOpening, MayUpgrade, is_prepared}
+use Rattle.dg_stop.specs.DoubleOpenings.{Attaches, IsLabeledOn, LeavesOpening, MayUpgrade, is_prepared}
 use Rattle.dg_stop.specs.Doubles.{AreHeld, fell_in, known_in, sizes_in, stands_in}
 use Rattle.dg_stop.specs.FoundHeaders.{AreFound, AreHeadersOf, Bears, IsIn, IsOpening, found_at}
-use Rattle.dg_stop.specs.Headers.{HasHeader}
+use Rattle.dg_stop.specs.Headers.{HasHeader, IsBareLabeled, IsLabeled}
 use Rattle.dg_stop.specs.Layouts.{SamePages, bits_of, double_size, table_size}
 use Rattle.dg_stop.specs.Leads.{IsAlike}
 use Rattle.dg_stop.specs.Phases.{CanPrepare, Finished, IsServed, Sized, bits_of_held, flag_in, head_of, size_in, size_of}
@@ -51,10 +52,10 @@ stands_by true false is = (refl, refl)
 stands_by true true is = absurd (false≢true is)
 stands_by false f is = absurd (false≢true is)
 
-gone_by : (k f : Bool) → (not k || f) ≡ false → (k ≡ true) × (f ≡ false)
-gone_by true false is = (refl, refl)
-gone_by true true is = absurd (false≢true (sym is))
-gone_by false f is = absurd (false≢true (sym is))
+near_by : (l f : Bool) → (l || f) ≡ false → (l ≡ false) × (f ≡ false)
+near_by false false is = (refl, refl)
+near_by false true is = absurd (false≢true (sym is))
+near_by true f is = absurd (false≢true (sym is))
 
 none_by : (h f : Bool) → (h && not f) ≡ false → f ≡ false → h ≡ false
 none_by false f is on = refl
@@ -102,9 +103,10 @@ module _ {S : Type 0} (rack : Ghosts S) (none : (s : S) → rack.made s [] s) (b
       (λ call on. subst (IsNotOn q) (sym on.is.on) (λ e. false≢true (sym out ∙ subst (λ (x : ℕ). flag_in served x ≡ true) e on.is.was))) only.calls only.each)
 
   pub leaves_opening : (known fell : ℕ → Bool) (a b : S) → Makes rack IsOpening a b → StillTold (rack.bytes a) (rack.bytes b) → ((q : ℕ) → known q ≡ true → q < 32)
-      → ((q : ℕ) → q < 32 → known q ≡ false → fell q ≡ true) → ((q : ℕ) → fell q ≡ true → Rose ((rack.counts a).faults q) ((rack.counts b).faults q))
+      → ((q : ℕ) → q < 32 → known q ≡ false → (fell q ≡ true) ⊎ IsLabeledOn rack q a b) → ((q : ℕ) → known q ≡ true → Told (λ before after. IsBareLabeled q before) (rack.bytes a q) (rack.bytes b q))
+      → ((q : ℕ) → fell q ≡ true → Rose ((rack.counts a).faults q) ((rack.counts b).faults q))
       → ((q : ℕ) → fell q ≡ false → (rack.counts b).faults q ≡ (rack.counts a).faults q) → LeavesOpening rack known fell a b
-  leaves_opening known fell a b made tells low lost rose quiet =
+  leaves_opening known fell a b made tells low lost bare rose quiet =
       let only : MadeOnly rack IsOpening a b = makes_made rack IsOpening none both a b made in
       let after = laws a b only.calls only.made in
       record {
@@ -115,6 +117,7 @@ module _ {S : Type 0} (rack : Ghosts S) (none : (s : S) → rack.made s [] s) (b
         rise = after.rise;
         low = low;
         lost = lost;
+        bare = bare;
         rose = rose;
         quiet = quiet;
       }
@@ -122,7 +125,7 @@ module _ {S : Type 0} (rack : Ghosts S) (none : (s : S) → rack.made s [] s) (b
 -- ---- the members that are attached
 
 -- member q is attached by this header
-pub record AttachedAt {S : Type 0} (rack : Ghosts S) (found : List Found) (known : List Bool) (t : Attached) (mid : S) (q : ℕ) (h : Header) : Type 0 where
+pub record AttachedAt {S : Type 0} (rack : Ghosts S) (found : List Found) (known failed : List Bool) (t : Attached) (mid : S) (q : ℕ) (h : Header) : Type 0 where
   pub low : q < 32
   pub is_known : flag_in known q ≡ true
   pub isin : IsIn h (found_at found q)
@@ -136,12 +139,12 @@ pub get_places : (all : List Places) (q : ℕ) → q < length all → (held : Pl
 get_places [] q low = absurd (omega (arith, low))
 get_places (x ∷ all) q low = (_, slice_get-get_or (x ∷ all) q x low)
 
-module _ {S : Type 0} (rack : Ghosts S) (found : List Found) (known : List Bool) (t : Attached) (old mid : S) (so : AreFound rack 32 found known old mid) (are : AreTables rack found mid t)
+module _ {S : Type 0} (rack : Ghosts S) (found : List Found) (known failed : List Bool) (t : Attached) (old mid : S) (so : AreFound rack 32 found known failed old mid) (are : AreTables rack found mid t)
     (heads : length t.heads ≡ 32) where
-  pub attached_at : (q : ℕ) (h : Header) → head_at t.heads q ≡ Some h → AttachedAt rack found known t mid q h
+  pub attached_at : (q : ℕ) (h : Header) → head_at t.heads q ≡ Some h → AttachedAt rack found known failed t mid q h
   attached_at q h e =
       let of = head_in rack found t.lead t.heads are.heads heads q h e in
-      let is = known_found rack found known old mid so q h of.is in
+      let is = known_found rack found known failed old mid so q h of.is in
       let held = get_places t.places.items q (omega (arith, is.0, are.count)) in
       record {
         low = is.0;
@@ -191,7 +194,7 @@ module _ {S : Type 0} (rack : Ghosts S) (found : List Found) (known : List Bool)
     | inr high ↦ ap size_of (slice_get_past t.places.items q (omega (arith, high, are.count)))
   ]
 
-  module _ (top : ℕ) (memory : Memory) (new : S) (at : Attaches rack known top t memory mid new) (count : length known ≡ 32) where
+  module _ (top : ℕ) (memory : Memory) (new : S) (at : Attaches rack known failed top t memory mid new) (count : length known ≡ 32) where
     -- a member that served had a prepared header
     pub served_head : (q : ℕ) → flag_in at.served q ≡ true → (h : Header) × ((head_at t.heads q ≡ Some h) × (h.committed ≡ false))
     served_head q on = prepared_some (head_at t.heads q) (sym (at.prepared q) ∙ on)
@@ -201,6 +204,13 @@ module _ {S : Type 0} (rack : Ghosts S) (found : List Found) (known : List Bool)
         let head = served_head q on in
         let it = attached_at q head.0 head.1.0 in
         (it.low, it.is_known)
+
+    -- on a known member no call failed while headers were read
+    pub unfailed : (q : ℕ) → q < 32 → flag_in known q ≡ true → flag_in failed q ≡ false
+    unfailed q low on = elim (known_or (flag_in failed q)) [
+      | inl marked ↦ absurd (false≢true (sym ((so.below q low).unknown marked) ∙ on))
+      | inr off ↦ off
+    ]
 
     is_known : (q : ℕ) → known_in memory q ≡ flag_in known q
     is_known q = ap (λ (l : List Bool). flag_in l q) at.known_is
@@ -224,11 +234,11 @@ module _ {S : Type 0} (rack : Ghosts S) (found : List Found) (known : List Bool)
         let head = some_of (head_at t.heads q) is.0 in
         (head.0, (head.1, is.1))
 
-    -- who neither stands nor fell isn't attached, but known
-    pub absent_at : (q : ℕ) → q < 32 → stands_in memory q ≡ false → fell_in memory q ≡ false → (head_at t.heads q ≡ None) × (flag_in known q ≡ true)
+    -- who neither stands nor fell isn't attached
+    pub absent_at : (q : ℕ) → q < 32 → stands_in memory q ≡ false → fell_in memory q ≡ false → head_at t.heads q ≡ None
     absent_at q low out near =
-        let is = gone_by (flag_in known q) (fell_now at.served at.serves q) (sym (at.fell q low) ∙ near) in
-        (none_of (head_at t.heads q) (none_by (is_some (head_at t.heads q)) (fell_now at.served at.serves q) (sym (at.stands q) ∙ out) is.1), is.0)
+        let is = near_by (flag_in failed q) (fell_now at.served at.serves q) (sym (at.fell q low) ∙ near) in
+        none_of (head_at t.heads q) (none_by (is_some (head_at t.heads q)) (fell_now at.served at.serves q) (sym (at.stands q) ∙ out) is.1)
 
     -- ---- what is kept in memory
 
@@ -257,7 +267,7 @@ module _ {S : Type 0} (rack : Ghosts S) (found : List Found) (known : List Bool)
 
       bare_now : (q : ℕ) → stands_in memory q ≡ false → fell_in memory q ≡ false → sizes_in memory q ≡ 0
       bare_now q out near = elim (lt_or q 32) [
-        | inl low ↦ size_now q ∙ no_size q (absent_at q low out near).0
+        | inl low ↦ size_now q ∙ no_size q (absent_at q low out near)
         | inr high ↦ size_now q ∙ ap size_of (slice_get_past t.places.items q (omega (arith, high, are.count)))
       ]
 
@@ -274,16 +284,19 @@ module _ {S : Type 0} (rack : Ghosts S) (found : List Found) (known : List Bool)
       rose_served : (q : ℕ) → q < 32 → fell_now at.served at.serves q ≡ true → Rose ((rack.counts old).faults q) ((rack.counts new).faults q)
       rose_served q low fell =
           let is = fell_by (flag_in at.served q) (flag_in at.serves q) fell in
-          let was = served_at q is.0 in
-          subst (λ (n : ℕ). Rose n ((rack.counts new).faults q)) ((so.below q low).quiet was.1) ((fate q low).reach.cause is.0 is.1)
+          subst (λ (n : ℕ). Rose n ((rack.counts new).faults q)) ((so.below q low).quiet (unfailed q low (served_at q is.0).1)) ((fate q low).reach.cause is.0 is.1)
 
-      rose_lost : (q : ℕ) → q < 32 → flag_in known q ≡ false → Rose ((rack.counts old).faults q) ((rack.counts new).faults q)
-      rose_lost q low out = elim (served_or q) [
+      -- a member that isn't known doesn't serve
+      idle_unknown : (q : ℕ) → flag_in known q ≡ false → flag_in at.served q ≡ false
+      idle_unknown q out = elim (served_or q) [
         | inl served ↦ absurd (false≢true (sym out ∙ (served_at q served).1))
-        | inr idle ↦
-            let far = fate q low in
-            subst (λ (n : ℕ). Rose ((rack.counts old).faults q) n) (sym (far.reach.spared (not_serving q idle far.only))) ((so.below q low).rose out)
+        | inr idle ↦ idle
       ]
+
+      rose_failed : (q : ℕ) → q < 32 → flag_in failed q ≡ true → Rose ((rack.counts old).faults q) ((rack.counts new).faults q)
+      rose_failed q low marked =
+          let far = fate q low in
+          subst (λ (n : ℕ). Rose ((rack.counts old).faults q) n) (sym (far.reach.spared (not_serving q (idle_unknown q ((so.below q low).unknown marked)) far.only))) ((so.below q low).rose marked)
         where
           not_serving : (q : ℕ) → flag_in at.served q ≡ false → (flag_in at.serves q ≡ true → flag_in at.served q ≡ true) → flag_in at.serves q ≡ flag_in at.served q
           not_serving q idle only = elim (known_or (flag_in at.serves q)) [
@@ -291,26 +304,38 @@ module _ {S : Type 0} (rack : Ghosts S) (found : List Found) (known : List Bool)
             | inr off ↦ off ∙ sym idle
           ]
 
-      quiet_now : (q : ℕ) → q < 32 → flag_in known q ≡ true → fell_now at.served at.serves q ≡ false → (rack.counts new).faults q ≡ (rack.counts old).faults q
-      quiet_now q low on near =
+      quiet_now : (q : ℕ) → q < 32 → flag_in failed q ≡ false → fell_now at.served at.serves q ≡ false → (rack.counts new).faults q ≡ (rack.counts old).faults q
+      quiet_now q low off near =
           let far = fate q low in
-          far.reach.spared (spared_by (flag_in at.served q) (flag_in at.serves q) near far.only) ∙ (so.below q low).quiet on
+          far.reach.spared (spared_by (flag_in at.served q) (flag_in at.serves q) near far.only) ∙ (so.below q low).quiet off
 
-      gone_or : (k f : Bool) → (not k || f) ≡ true → (k ≡ false) ⊎ (f ≡ true)
-      gone_or false f is = inl refl
-      gone_or true f is = inr is
+      gone_or : (l f : Bool) → (l || f) ≡ true → (l ≡ true) ⊎ (f ≡ true)
+      gone_or true f is = inl refl
+      gone_or false f is = inr is
+
+      lost_now : (q : ℕ) → q < 32 → known_in memory q ≡ false → (fell_in memory q ≡ true) ⊎ IsLabeledOn rack q old new
+      lost_now q low out =
+          let unknown : flag_in known q ≡ false = sym (is_known q) ∙ out in
+          let idle = (fate q low).idle (idle_unknown q unknown) in
+          elim ((so.below q low).lost unknown) [
+            | inl marked ↦ inl (at.fell q low ∙ ap (λ (b : Bool). b || fell_now at.served at.serves q) marked)
+            | inr labeled ↦ inr (record {
+              same = told_right IsSame (rack.bytes old q) (rack.bytes mid q) (rack.bytes new q) (so.below q low).same idle;
+              labeled = some_on IsLabeled (rack.bytes mid q) (rack.bytes new q) labeled idle;
+            })
+          ]
 
       pub leaves_now : LeavesOpening rack (known_in memory) (fell_in memory) old new
       leaves_now = leaves_opening rack none both laws (known_in memory) (fell_in memory) old new
           (makes_both rack IsOpening old mid new so.made (makes_such rack (IsServed at.served) IsOpening (λ call on. record { member = on.member; low = (served_at on.member on.is.was).0; is = inr on.is.on }) mid new at.finished.made))
-          (λ q h. so.tells q (at.finished.tells q h)) known_low
-          (λ q low out. at.fell q low ∙ ap (λ (b : Bool). not b || fell_now at.served at.serves q) (sym (is_known q) ∙ out))
+          (λ q h. so.tells q (at.finished.tells q h)) known_low lost_now
+          (λ q on. told_first (IsBareLabeled q) (rack.bytes old q) (rack.bytes mid q) (rack.bytes new q) (had_bare rack found known failed old mid so q (known_low q on) (sym (is_known q) ∙ on)) (at.finished.tells q))
           (λ q fell.
           let low = at.fell_low q fell in
-          elim (gone_or (flag_in known q) (fell_now at.served at.serves q) (sym (at.fell q low) ∙ fell)) [ inl out ↦ rose_lost q low out | inr gone ↦ rose_served q low gone ])
+          elim (gone_or (flag_in failed q) (fell_now at.served at.serves q) (sym (at.fell q low) ∙ fell)) [ inl marked ↦ rose_failed q low marked | inr gone ↦ rose_served q low gone ])
           (λ q near. elim (lt_or q 32) [
             | inl low ↦
-                let is = gone_by (flag_in known q) (fell_now at.served at.serves q) (sym (at.fell q low) ∙ near) in
+                let is = near_by (flag_in failed q) (fell_now at.served at.serves q) (sym (at.fell q low) ∙ near) in
                 quiet_now q low is.0 is.1
             | inr high ↦ (at.finished.rest q high).faults ∙ (so.rest q high).faults
           ])

@@ -12,7 +12,7 @@ use Rattle.dg_stop.proofs.PhaseLemmas.{told_itself, told_right}
 use Rattle.dg_stop.proofs.TableLemmas.{head_low, holds_on}
 use Rattle.dg_stop.proofs.TriesLemmas.{count_fewer}
 use Rattle.dg_stop.specs.FoundHeaders.{AreFound, AreHeadersOf, IsIn, found_at, no_headers}
-use Rattle.dg_stop.specs.Headers.{HasHeader}
+use Rattle.dg_stop.specs.Headers.{HasHeader, IsBareLabeled}
 use Rattle.dg_stop.specs.Leads.{IsAttachedBy, IsLead, IsOfLead, IsTopOf}
 use Rattle.dg_stop.specs.Phases.{flag_in}
 use Rattle.dg_stop.specs.Readings.{AreSound, AreTables, HadHeader, HasRead, HasTables, IsSeen, LosesFound, ReadsOn}
@@ -92,7 +92,7 @@ module _ {S : Type 0} (rack : Ghosts S) (found : List Found) (t : Attached) (are
 
 -- ---- without those on which a call failed
 
-module _ {S : Type 0} (rack : Ghosts S) (found : List Found) (known : List Bool) (first now : S) (so : AreFound rack 32 found known first now) where
+module _ {S : Type 0} (rack : Ghosts S) (found : List Found) (known failed : List Bool) (first now : S) (so : AreFound rack 32 found known failed first now) where
   -- a member that has a header is known
   pub known_in : (q : ℕ) (h : Header) → IsIn h (found_at found q) → (q < 32) × (flag_in known q ≡ true)
   known_in q h isin = elim (lt_or q 32) [
@@ -105,23 +105,23 @@ module _ {S : Type 0} (rack : Ghosts S) (found : List Found) (known : List Bool)
       let is = known_in q h isin in
       (is.0, ((so.below q is.0).on is.1).bears h isin)
 
-module _ {S : Type 0} (rack : Ghosts S) (found : List Found) (known : List Bool) (old : S) where
-  pub reads_none : ReadsOn rack found known old found known old
+module _ {S : Type 0} (rack : Ghosts S) (found : List Found) (known failed : List Bool) (old : S) where
+  pub reads_none : ReadsOn rack found known failed old found known failed old
   reads_none = record { on = λ first so. so; only = λ q h isin. isin; same = λ q. told_itself (rack.bytes old q) }
 
-  module _ (later : List Found) (knows : List Bool) (mid new : S) (so : ReadsOn rack found known old later knows mid) where
-    pub reads_then : (same : (q : ℕ) → Told IsSame (rack.bytes mid q) (rack.bytes new q)) → ((first : S) → AreFound rack 32 later knows first mid → AreFound rack 32 later knows first new)
-        → ReadsOn rack found known old later knows new
+  module _ (later : List Found) (knows fails : List Bool) (mid new : S) (so : ReadsOn rack found known failed old later knows fails mid) where
+    pub reads_then : (same : (q : ℕ) → Told IsSame (rack.bytes mid q) (rack.bytes new q)) → ((first : S) → AreFound rack 32 later knows fails first mid → AreFound rack 32 later knows fails first new)
+        → ReadsOn rack found known failed old later knows fails new
     reads_then same on = record {
       on = λ first was. on first (so.on first was);
       only = so.only;
       same = λ q. told_right IsSame (rack.bytes old q) (rack.bytes mid q) (rack.bytes new q) (so.same q) (same q);
     }
 
-    module _ (many : length later ≡ 32) (all : length knows ≡ 32) (lost : ℕ) (is : LosesFound rack later mid new lost) where
-      pub reads_lost : ReadsOn rack found known old (slice_set later lost no_headers) (slice_set knows lost false) new
+    module _ (many : length later ≡ 32) (all : length knows ≡ 32) (marks : length fails ≡ 32) (lost : ℕ) (is : LosesFound rack later mid new lost) where
+      pub reads_lost : ReadsOn rack found known failed old (slice_set later lost no_headers) (slice_set knows lost false) (slice_set fails lost true) new
       reads_lost = record {
-        on = λ first was. is.loses.on later knows first many all (so.on first was);
+        on = λ first was. is.loses.on later knows fails first many all marks (so.on first was);
         only = only;
         same = λ q. told_right IsSame (rack.bytes old q) (rack.bytes mid q) (rack.bytes new q) (so.same q) (is.loses.same q);
       }
@@ -139,10 +139,10 @@ module _ {S : Type 0} (rack : Ghosts S) (found : List Found) (known : List Bool)
       ]
 
       -- one member less is known
-      pub known_less : (first : S) → AreFound rack 32 later knows first mid → count_in (slice_set knows lost false) < count_in knows
+      pub known_less : (first : S) → AreFound rack 32 later knows fails first mid → count_in (slice_set knows lost false) < count_in knows
       known_less first was = count_fewer knows (slice_set knows lost false) (sym (length-set knows lost false)) fewer (record {
         member = lost;
-        was = (known_in rack later knows first mid was lost is.header is.is).1;
+        was = (known_in rack later knows fails first mid was lost is.header is.is).1;
         isnt = get_or-set_same knows lost false false (omega (arith, all, is.loses.low));
       })
 
@@ -154,23 +154,39 @@ nothing_found q = elim (lt_or q 32) [
   | inr high ↦ get_or_past (replicate 32 no_headers) q no_headers high
 ]
 
+pub none_failed : (q : ℕ) → flag_in (replicate 32 false) q ≡ false
+none_failed q = elim (lt_or q 32) [
+  | inl low ↦ get_or-replicate 32 q false false low
+  | inr high ↦ get_or_past (replicate 32 false) q false high
+]
+
 pub all_known : (q : ℕ) → q < 32 → flag_in (replicate 32 true) q ≡ true
 all_known q low = get_or-replicate 32 q true false low
+
+pub told_first : (P : List ℕ → Type 0) (x y z : Option (List ℕ)) → Told (λ b a. P b) x y → (IsSome z → IsSome y) → Told (λ b a. P b) x z
+told_first P x y None told still = tt
+told_first P x None (Some c) told still = absurd (false≢true (still refl))
+told_first P None (Some b) (Some c) told still = absurd told
+told_first P (Some a) (Some b) (Some c) told still = told
 
 had_told : (P Q : List ℕ → Type 0) (x y : Option (List ℕ)) → Told IsSame x y → IfSome y P → ((l : List ℕ) → P l → Q l) → Told (λ b a. Q b) x y
 had_told P Q x None same is f = tt
 had_told P Q None (Some b) same is f = absurd same
 had_told P Q (Some a) (Some b) same is f = f a (subst P same is)
 
-module _ {S : Type 0} (rack : Ghosts S) (found : List Found) (known : List Bool) (old mid : S) (so : AreFound rack 32 found known old mid) where
+module _ {S : Type 0} (rack : Ghosts S) (found : List Found) (known failed : List Bool) (old mid : S) (so : AreFound rack 32 found known failed old mid) where
   -- a header that was found stood on its member at first
   pub had_header : (q : ℕ) (h : Header) → IsIn h (found_at found q) → HadHeader rack q (header_of h) old mid
   had_header q h isin =
-      let is = known_in rack found known old mid so q h isin in
+      let is = known_in rack found known failed old mid so q h isin in
       let at = so.below q is.0 in
       had_told (AreHeadersOf q (found_at found q)) (λ l. HasHeader q l (header_of h)) (rack.bytes old q) (rack.bytes mid q) at.same (at.on is.1).headers (λ l are. (are h).0 isin)
 
-  module _ (top : ℕ) (tops : IsTopOf found top) (later : List Found) (knows : List Bool) (new : S) (on : ReadsOn rack found known mid later knows new) where
+  -- a known member that begins as a label had no header
+  pub had_bare : (q : ℕ) → q < 32 → flag_in known q ≡ true → Told (λ before after. IsBareLabeled q before) (rack.bytes old q) (rack.bytes mid q)
+  had_bare q low on = let at = so.below q low in had_told (IsBareLabeled q) (IsBareLabeled q) (rack.bytes old q) (rack.bytes mid q) at.same (at.on on).bare (λ l is. is)
+
+  module _ (top : ℕ) (tops : IsTopOf found top) (later : List Found) (knows fails : List Bool) (new : S) (on : ReadsOn rack found known failed mid later knows fails new) where
     seen_then : IsSeen rack top old new
     seen_then = elim tops.some [
       | inl none ↦ inl none
@@ -182,14 +198,15 @@ module _ {S : Type 0} (rack : Ghosts S) (found : List Found) (known : List Bool)
       })
     ]
 
-    pub has_read : length knows ≡ 32 → (attached : Option Attached) → HasTables rack later new attached → (reading : Reading) → reading.found ≡ later → reading.known ≡ knows → reading.top ≡ top → reading.attached ≡ attached
+    pub has_read : length knows ≡ 32 → (attached : Option Attached) → HasTables rack later new attached → (reading : Reading) → reading.found ≡ later → reading.known ≡ knows → reading.failed ≡ fails → reading.top ≡ top → reading.attached ≡ attached
         → HasRead rack reading old new
-    has_read many attached tables reading e f g h = record {
+    has_read many attached tables reading e f fail g h = record {
       many = ap (λ (l : List Bool). length l) f ∙ many;
-      found = subst (λ (x : List Found). AreFound rack 32 x reading.known old new) (sym e) (subst (λ (x : List Bool). AreFound rack 32 later x old new) (sym f) (on.on old so));
+      found = subst (λ (x : List Found). AreFound rack 32 x reading.known reading.failed old new) (sym e) (subst (λ (x : List Bool). AreFound rack 32 later x reading.failed old new) (sym f)
+          (subst (λ (x : List Bool). AreFound rack 32 later knows x old new) (sym fail) (on.on old so)));
       most = λ q k isin.
           let was = on.only q k (subst (λ (x : List Found). IsIn k (found_at x q)) e isin) in
-          let low = (known_in rack found known old mid so q k was).0 in
+          let low = (known_in rack found known failed old mid so q k was).0 in
           subst (λ (n : ℕ). k.sequence ≤ n) (sym g) (tops.most q k (record { low = low; is = was }));
       seen = subst (λ (n : ℕ). IsSeen rack n old new) (sym g) seen_then;
       tables = subst (λ (x : List Found). HasTables rack x new reading.attached) (sym e) (subst (HasTables rack later new) (sym h) tables);

@@ -11,9 +11,9 @@ use Rattle.dg_stop.proofs.Reopening.{none_reopened, spares_last, spares_reopened
 use Rattle.dg_stop.proofs.StepLemmas.{if_known}
 use Rattle.dg_stop.specs.Changes.{Spares}
 use Rattle.dg_stop.specs.Commits.{IsFresh}
-use Rattle.dg_stop.specs.DoubleOpenings.{GivesKept, HasNoHeader, IsOfOne, OpensDouble, OpensPlain}
+use Rattle.dg_stop.specs.DoubleOpenings.{GivesKept, IsOfOne, OpensDouble, OpensPlain}
 use Rattle.dg_stop.specs.Doubles.{Double, KeepsAll, double_keeps, known_in}
-use Rattle.dg_stop.specs.Headers.{Header, HasHeader, entry_of, extra_of}
+use Rattle.dg_stop.specs.Headers.{Header, HasHeader, HasNoHeader, entry_of, extra_of}
 use Rattle.dg_stop.specs.Phases.{TellsAll, bytes_or, known_at}
 use Rattle.dg_stop.specs.Reopens.{NoneCommitted, Reopened}
 use Rattle.dg_stop.specs.Sessions.{DoublesGiveKept, IsFoundAgain, PlainsGiveNothing}

@@ -1,5 +1,5 @@
 -- What a call on a member leaves of a double rack, from what it left of the rack behind.
-use Rattle.std.proofs.Common.{◌≡◌, ◌≢◌, ◌<◌, ◌≤◌, ◌↔◌, ℕ, Bool, true, false, List, [], ◌∷◌, length, refl, sym, ◌∙◌, ap, arith, inl, inr, subst}
+use Rattle.std.proofs.Common.{◌≡◌, ◌≢◌, ◌<◌, ◌≤◌, ◌↔◌, ◌⊎◌, ℕ, Bool, true, false, List, [], ◌∷◌, length, refl, sym, ◌∙◌, ap, arith, inl, inr, subst}
 use Rattle.std.specs.Prelude.{◌&&◌, Option, Some, None, IfSome, IsSome, OnErr, OnOk, Result, Ok, Err, if◌then◌else◌, slice_index}
 use Rattle.std.proofs.lemmas.Bool.{false≢true}
 use Rattle.dg_io.specs.Disks.{DiskStates, DisksAfter}
@@ -16,7 +16,7 @@ use Rattle.dg_stop.proofs.Keeping.{Carries, Narrows, narrows_guards, narrows_kee
 use Rattle.dg_stop.proofs.OneCommit.{same_at, told_both}
 use Rattle.dg_stop.proofs.PieceLemmas.{torn_pages_size}
 use Rattle.dg_stop.specs.DoubleLaws.{alone_after, alone_none, both_of, seen_some, some_seen}
-use Rattle.dg_stop.specs.Doubles.{AreHeld, Double, DoubleMade, GuardsAll, IsBeside, IsPlainOn, KeepsStill, Steps, double_stands, double_words, fell_in, known_in, last_in, seen_in, sizes_in, stands_in}
+use Rattle.dg_stop.specs.Doubles.{AreHeld, AreKnown, Double, DoubleMade, GuardsAll, IsBeside, IsLookOrPlainOn, IsPlainOn, KeepsStill, Steps, double_stands, double_words, fell_in, known_in, last_in, seen_in, sizes_in, stands_in}
 use Rattle.dg_stop.specs.Layouts.{bits_of, double_size, table_size}
 use Rattle.dg_stop.specs.Pages.{TornPages}
 use Rattle.dg_stop.specs.Phases.{Sized, TellsAll, bits_in, bytes_or, known_at, view_of}
@@ -114,6 +114,13 @@ long_same n x None same long = tt
 long_same n None (Some b) same long = absurd same
 long_same n (Some a) (Some b) same long = ap (λ (l : List ℕ). length l) same ∙ long
 
+-- those that stand are known, where this member is
+pub standing_by : (q : ℕ) (m n : Memory) → IsBeside q m n → (AreKnown m → stands_in n q ≡ true → known_in n q ≡ true) → AreKnown m → AreKnown n
+standing_by q m n beside own are r at = elim (same_or_not r q) [
+  | inl e ↦ subst (λ (x : ℕ). known_in n x ≡ true) (sym e) (own are (subst (λ (x : ℕ). stands_in n x ≡ true) e at))
+  | inr far ↦ beside.known r far ∙ are r (sym (beside.stands r far) ∙ at)
+]
+
 -- where the member stands afterwards the call was done
 on_ok : {T E : Type 0} (r : Result T E) (P : Type 0) → OnOk r P → OnErr r ⊥ → P
 on_ok (Ok x) P ok err = ok
@@ -131,7 +138,8 @@ module _ {S T E : Type 0} (rack : Ghosts S) (q : ℕ) (result : Result T E) (m n
     (only : MadeOnly rack (IsOn q) a b) (after : (x y : S) (k : List RackCall) → rack.made x k y → After rack k x y) (serves : Serves rack q result a b)
     (pages : Told (TornPages (table_size (sizes_in m q) m.room) (sizes_in m q) (last_in m q)) (rack.bytes a q) (rack.bytes b q))
     (beside : IsBeside q m n) (size : sizes_in n q ≡ sizes_in m q) (bits : length (bits_in n.current.items q) ≡ length (bits_in m.current.items q)) (lasts : bits_in n.last.items q ≡ bits_in m.last.items q)
-    (ok : OnOk result (stands_in n q ≡ true)) (err : OnErr result (stands_in n q ≡ false)) (fell : stands_in n q ≡ false → fell_in n q ≡ true) where
+    (ok : OnOk result (stands_in n q ≡ true)) (err : OnErr result (stands_in n q ≡ false)) (fell : stands_in n q ≡ false → fell_in n q ≡ true) (known : known_in n q ≡ known_in m q)
+    (stay : OnOk result (fell_in n q ≡ fell_in m q)) where
   was : Sized rack m.current.items m.room q a
   was = held.sized q stand
 
@@ -190,13 +198,19 @@ module _ {S T E : Type 0} (rack : Ghosts S) (q : ℕ) (result : Result T E) (m n
     rise = (after a b only.calls only.made).rise;
     disks = disks_on q only.calls only.each (rack.disks a) (rack.disks b) (after a b only.calls only.made).disks_after;
     room = beside.room;
+    known_on = ok_on result (stands_in n q ≡ true) (known_in m q ≡ true → known_in n q ≡ true) (λ is h. known ∙ h) ok;
+    others_known = beside.known;
+    fell_on = λ look. ok_on result (fell_in n q ≡ fell_in m q) (fell_in n q ≡ true → fell_in m q ≡ true) (λ is h. sym is ∙ h) stay;
+    others_fell = beside.fell;
+    standing = standing_by q m n beside (λ are at. known ∙ are q stand);
   }
 
 -- ---- calls that reach nothing behind
 
 module _ {S T E : Type 0} (rack : Ghosts S) (call : RackCall) (q : ℕ) (result : Result T E) (m n : Memory) (a : S) (held : AreHeld rack m a)
     (beside : IsBeside q m n) (same : n.current ≡ m.current) (lasts : n.last ≡ m.last) (only : (r : ℕ) → stands_in n r ≡ true → stands_in m r ≡ true) (ok : OnOk result (stands_in n q ≡ stands_in m q))
-    (bare : stands_in n q ≡ false → fell_in n q ≡ false → sizes_in n q ≡ 0) where
+    (bare : stands_in n q ≡ false → fell_in n q ≡ false → sizes_in n q ≡ 0) (knows : OnOk result (known_in n q ≡ known_in m q)) (own : AreKnown m → stands_in n q ≡ true → known_in n q ≡ true)
+    (stay : OnOk result (fell_in n q ≡ fell_in m q)) where
   itself : (x : Option (List ℕ)) → Told IsSame x x
   itself None = tt
   itself (Some x) = refl
@@ -223,6 +237,11 @@ module _ {S T E : Type 0} (rack : Ghosts S) (call : RackCall) (q : ℕ) (result 
     rise = record { faults = λ r. omega arith; calls = omega arith; writes = omega arith };
     disks = disks_none (rack.disks a) call;
     room = beside.room;
+    known_on = ok_on result (known_in n q ≡ known_in m q) (known_in m q ≡ true → known_in n q ≡ true) (λ is h. is ∙ h) knows;
+    others_known = beside.known;
+    fell_on = λ look. ok_on result (fell_in n q ≡ fell_in m q) (fell_in n q ≡ true → fell_in m q ≡ true) (λ is h. sym is ∙ h) stay;
+    others_fell = beside.fell;
+    standing = standing_by q m n beside own;
   }
 
 module _ {S : Type 0} (rack : Ghosts S) (m n : Memory) (a : S) (less : Narrows m n) where
@@ -240,6 +259,11 @@ module _ {S : Type 0} (rack : Ghosts S) (m n : Memory) (a : S) (less : Narrows m
   )
 
 -- ---- with the own counts
+
+-- the count behind of a member that was called rose, so it needn't have fallen before
+rose_or : {T E : Type 0} (r : Result T E) (P Q : Type 0) → OnErr r P → OnErr r (P ⊎ Q)
+rose_or (Ok x) P Q is = tt
+rose_or (Err x) P Q is = inl is
 
 -- one more call, which failed or not
 pub record TallySteps {T E : Type 0} (q : ℕ) (result : Result T E) (old new : Tally) : Type 0 where
@@ -286,9 +310,35 @@ module _ {S T E : Type 0} (rack : Ghosts S) (call : RackCall) (q : ℕ) (on : me
     by (Ok x) cause is = absurd (omega (arith, cause.kept, rose))
     by (Err x) cause is = is
 
+  -- the member stays known, or the call failed
+  own_known : known_in old.memory q ≡ true → (known_in new.memory q ≡ true) ⊎ Rose (slice_index old.tally.faults q) (slice_index new.tally.faults q)
+  own_known is = by result steps.known_on tally.cause where
+    by : (r : Result T E) → OnOk r (known_in old.memory q ≡ true → known_in new.memory q ≡ true) → HasCause (slice_index old.tally.faults q) (slice_index new.tally.faults q) r
+        → (known_in new.memory q ≡ true) ⊎ Rose (slice_index old.tally.faults q) (slice_index new.tally.faults q)
+    by (Ok x) on cause = inl (on is)
+    by (Err x) on cause = inr cause.failed
+
+  -- its count behind rose, or it had fallen before
+  abbrev RoseOrFell : ℕ → Type 0
+  RoseOrFell r = Rose ((rack.counts old.rack).faults r) ((rack.counts new.rack).faults r) ⊎ (fell_in old.memory r ≡ true)
+
+  own_looked : OnErr result (RoseOrFell q) → slice_index old.tally.faults q < slice_index new.tally.faults q → RoseOrFell q
+  own_looked seek rose = by result tally.cause seek where
+    by : (r : Result T E) → HasCause (slice_index old.tally.faults q) (slice_index new.tally.faults q) r → OnErr r (RoseOrFell q) → RoseOrFell q
+    by (Ok x) cause is = absurd (omega (arith, cause.kept, rose))
+    by (Err x) cause is = is
+
+  own_fell : OnOk result (fell_in new.memory q ≡ true → fell_in old.memory q ≡ true) → OnErr result (RoseOrFell q) → fell_in new.memory q ≡ true → RoseOrFell q
+  own_fell on seek fell = by result on seek where
+    by : (r : Result T E) → OnOk r (fell_in new.memory q ≡ true → fell_in old.memory q ≡ true) → OnErr r (RoseOrFell q) → RoseOrFell q
+    by (Ok x) on is = inr (on fell)
+    by (Err x) on is = is
+
   pub made_double : (IsNoBlank call → KeepsStill rack old.memory new.memory old.rack new.rack)
-      → (IsPlainOn q call → rack.tells new.rack q → OnErr result (Rose ((rack.counts old.rack).faults q) ((rack.counts new.rack).faults q))) → DoubleMade rack old (call ∷ []) new
-  made_double keeps due = record {
+      → (IsPlainOn q call → rack.tells new.rack q → OnErr result (Rose ((rack.counts old.rack).faults q) ((rack.counts new.rack).faults q)))
+      → (IsLookOrPlainOn q call → rack.tells new.rack q → OnErr result (RoseOrFell q))
+      → DoubleMade rack old (call ∷ []) new
+  made_double keeps due seek = record {
     after = record {
       same_rack = steps.same_rack;
       steady_on = (λ h. h, λ h. h);
@@ -309,6 +359,32 @@ module _ {S T E : Type 0} (rack : Ghosts S) (call : RackCall) (q : ℕ) (on : me
           (subst (λ (x : ℕ). slice_index old.tally.faults x < slice_index new.tally.faults x) e rose))
       | inr far ↦ absurd (omega (arith, tally.others r far, rose))
     ];
+    looked = λ r tells each rose. elim (same_or_not r q) [
+      | inl e ↦
+          subst RoseOrFell (sym e)
+          (own_looked (seek (subst (λ (x : ℕ). IsLookOrPlainOn x call) e each.0) (subst (λ (x : ℕ). rack.tells new.rack x) e tells))
+          (subst (λ (x : ℕ). slice_index old.tally.faults x < slice_index new.tally.faults x) e rose))
+      | inr far ↦ absurd (omega (arith, tally.others r far, rose))
+    ];
+    fell = λ r tells each fell. elim (same_or_not r q) [
+      | inl e ↦
+          let look : IsLookOrPlainOn q call = subst (λ (x : ℕ). IsLookOrPlainOn x call) e each.0 in
+          subst RoseOrFell (sym e)
+          (own_fell (steps.fell_on look) (seek look (subst (λ (x : ℕ). rack.tells new.rack x) e tells)) (subst (λ (x : ℕ). fell_in new.memory x ≡ true) e fell))
+      | inr far ↦ inr (sym (steps.others_fell r far) ∙ fell)
+    ];
     alone = λ r each. (steps.alone r (λ e. each.0 (on ∙ sym e)), steps.others_stand r (λ e. each.0 (on ∙ sym e)));
     room = steps.room;
+    known = λ r is. elim (same_or_not r q) [
+      | inl e ↦
+          subst (λ (x : ℕ). (known_in new.memory x ≡ true) ⊎ Rose (slice_index old.tally.faults x) (slice_index new.tally.faults x)) (sym e)
+          (own_known (subst (λ (x : ℕ). known_in old.memory x ≡ true) e is))
+      | inr far ↦ inl (steps.others_known r far ∙ is)
+    ];
+    standing = steps.standing;
   }
+
+  -- a call that reads or writes it
+  pub made_called : KeepsStill rack old.memory new.memory old.rack new.rack
+      → (rack.tells new.rack q → OnErr result (Rose ((rack.counts old.rack).faults q) ((rack.counts new.rack).faults q))) → DoubleMade rack old (call ∷ []) new
+  made_called keeps due = made_double (λ is. keeps) (λ plain tells. due tells) (λ is tells. rose_or result _ _ (due tells))

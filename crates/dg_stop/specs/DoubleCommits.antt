@@ -99,6 +99,7 @@ pub record LeavesMembers {S : Type 0} (rack : Ghosts S) (served serves : List Bo
   pub rise : CountsRise (rack.counts old) (rack.counts new)
   pub disks : DisksFall (rack.disks old) (rack.disks new)
   pub room : later.room ≡ memory.room
+  pub known : later.known ≡ memory.known
 
 -- the checkpoint of a commit of the members that were tried
 abbrev pub tried_kept : Memory → List ℕ → List Bool → (ℕ → Option (List ℕ)) → Kept
@@ -135,8 +136,9 @@ double_rack rack = record {
 
 -- what a commit may leave of it, beside what it means as a rack
 pub record CommitsBehind {R : Type 0} (rack : Ghosts R) (old new : Double R) : Type 0 where
-  -- no count behind fell
+  -- no count behind fell, and no own one
   pub rise : CountsRise (rack.counts old.rack) (rack.counts new.rack)
+  pub own : CountsRise (double_counts rack old) (double_counts rack new)
   -- A member that doesn't stand in memory is left alone behind, and doesn't stand then.
   pub alone : (q : ℕ) → stands_in old.memory q ≡ false → LeavesAlone rack q old.rack new.rack × (stands_in new.memory q ≡ false)
   pub room : new.memory.room ≡ old.memory.room
@@ -144,6 +146,9 @@ pub record CommitsBehind {R : Type 0} (rack : Ghosts R) (old new : Double R) : T
   pub same_rack : rack.name new.rack ≡ rack.name old.rack
   pub told_before : (q : ℕ) → rack.tells new.rack q → rack.tells old.rack q
   pub same : (q : ℕ) → Told IsSame (double_bytes rack old q) (double_bytes rack new q)
+  -- A member is known just where it was, and one that stands stood before.
+  pub known : new.memory.known ≡ old.memory.known
+  pub stood : (q : ℕ) → stands_in new.memory q ≡ true → stands_in old.memory q ≡ true
 
 -- the room for extra bytes
 abbrev pub double_room : {R : Type 0} → Double R → Option ℕ

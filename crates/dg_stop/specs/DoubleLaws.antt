@@ -1,5 +1,5 @@
 -- Calls of a double rack leave what each of them leaves.
-use Rattle.std.specs.Prelude.{◌≡◌, ◌≤◌, ◌&&◌, ◌++◌, ℕ, Bool, true, false, List, [], Option, Some, None, IsSome, refl, slice_index}
+use Rattle.std.specs.Prelude.{◌≡◌, ◌≤◌, ◌⊎◌, ◌&&◌, ◌++◌, ℕ, Bool, true, false, List, [], Option, Some, None, IsSome, refl, slice_index}
 use Rattle.std.proofs.Common.{◌∙◌, arith, inl, inr}
 use Rattle.std.proofs.lemmas.Bool.{cases_lt, false≢true}
 use Rattle.dg_io.specs.MadeLaws.{after_both, after_none, each_back, each_front, same_both, same_told}
@@ -8,7 +8,7 @@ use Rattle.dg_io.specs.RackWords.{After}
 use Rattle.dg_io.specs.declared.outside.Rack.{Ghosts}
 use Rattle.dg_model.specs.Causes.{Rose}
 use Rattle.dg_model.specs.States.{Counts, CountsRise}
-use Rattle.dg_stop.specs.Doubles.{Double, DoubleMade, LeavesAlone, double_bytes, double_counts, double_disks, double_keeps, double_name, double_stands, double_steady, double_tells, double_words, seen_in, stands_in}
+use Rattle.dg_stop.specs.Doubles.{Double, DoubleMade, IsLookOrPlainOn, LeavesAlone, double_bytes, double_counts, double_disks, double_keeps, double_name, double_stands, double_steady, double_tells, double_words, fell_in, seen_in, stands_in}
 use Rattle.dg_stop.specs.declared.memories.Memory.{Memory}
 
 pub seen_some : (m : Memory) (q : ℕ) (x : Option (List ℕ)) → IsSome (seen_in m q x) → IsSome x
@@ -66,8 +66,12 @@ module _ {R : Type 0} (rack : Ghosts R) where
     after = after_none (double_name rack) (double_bytes rack) (double_counts rack) (double_stands rack) (double_steady rack) (double_tells rack) (double_keeps rack) (double_disks rack) s;
     behind = record { faults = λ q. omega arith; calls = omega arith; writes = omega arith };
     cause = λ q tells each rose. absurd (omega (arith, rose));
+    looked = λ q tells each rose. absurd (omega (arith, rose));
+    fell = λ q tells each fell. inr fell;
     alone = λ q each. (alone_none rack q s.rack, refl);
     room = refl;
+    known = λ q is. inl is;
+    standing = λ stand. stand;
   }
 
   pub double_both : (a b c : Double R) (x y : List RackCall) → DoubleMade rack a x b → DoubleMade rack b y c → DoubleMade rack a (x ++ y) c
@@ -79,12 +83,35 @@ module _ {R : Type 0} (rack : Ghosts R) where
       | inl early ↦ rose_then _ _ _ (first.cause q (second.after.told_before q tells) (each_front _ x y each) early) (second.behind.faults q)
       | inr late ↦ then_rose _ _ _ (first.behind.faults q) (second.cause q tells (each_back _ x y each) (omega (arith, rose, late)))
     ];
+    looked = λ q tells each rose. elim (cases_lt (slice_index a.tally.faults q) (slice_index b.tally.faults q)) [
+      | inl early ↦ then_or q (first.looked q (second.after.told_before q tells) (each_front _ x y each) early)
+      | inr late ↦ or_fell q tells (each_front _ x y each) (second.looked q tells (each_back _ x y each) (omega (arith, rose, late)))
+    ];
+    fell = λ q tells each fell. or_fell q tells (each_front _ x y each) (second.fell q tells (each_back _ x y each) fell);
     alone = λ q each.
         let front = first.alone q (each_front _ x y each) in
         let back = second.alone q (each_back _ x y each) in
         (alone_both rack q a.rack b.rack c.rack front.0 back.0, back.1 ∙ front.1);
     room = second.room ∙ first.room;
-  }
+    known = λ q is. elim (first.known q is) [
+      | inl still ↦ elim (second.known q still) [
+        | inl on ↦ inl on
+        | inr late ↦ inr (then_rose _ _ _ (first.after.rise.faults q) late)
+      ]
+      | inr early ↦ inr (rose_then _ _ _ early (second.after.rise.faults q))
+    ];
+    standing = λ stand. second.standing (first.standing stand);
+  } where
+    -- the count behind rose, or the member had fallen before
+    then_or : (q : ℕ) → Rose ((rack.counts a.rack).faults q) ((rack.counts b.rack).faults q) ⊎ (fell_in a.memory q ≡ true)
+        → Rose ((rack.counts a.rack).faults q) ((rack.counts c.rack).faults q) ⊎ (fell_in a.memory q ≡ true)
+    then_or q (inl early) = inl (rose_then _ _ _ early (second.behind.faults q))
+    then_or q (inr was) = inr was
+
+    or_fell : (q : ℕ) → rack.tells c.rack q → Each (IsLookOrPlainOn q) x → Rose ((rack.counts b.rack).faults q) ((rack.counts c.rack).faults q) ⊎ (fell_in b.memory q ≡ true)
+        → Rose ((rack.counts a.rack).faults q) ((rack.counts c.rack).faults q) ⊎ (fell_in a.memory q ≡ true)
+    or_fell q tells front (inl late) = inl (then_rose _ _ _ (first.behind.faults q) late)
+    or_fell q tells front (inr mid) = then_or q (first.fell q (second.after.told_before q tells) front mid)
 
   pub double_after : (a b : Double R) (calls : List RackCall) → DoubleMade rack a calls b → After (double_words rack) calls a b
   double_after a b calls made = made.after

@@ -11,7 +11,7 @@ use Rattle.dg_stop.specs.Commits.{WritesHeader, as_committed}
 use Rattle.dg_stop.specs.DoubleCommits.{fell_now}
 use Rattle.dg_stop.specs.Doubles.{Double, HasNoCalls, IsTooLong, double_bytes, double_keeps, fell_in, known_in, most_of, sizes_in, stands_in}
 use Rattle.dg_stop.specs.FoundHeaders.{IsOpening}
-use Rattle.dg_stop.specs.Headers.{Header, HasHeader}
+use Rattle.dg_stop.specs.Headers.{Header, HasHeader, HasNoHeader, IsBareLabeled, IsLabeled}
 use Rattle.dg_stop.specs.Layouts.{SamePages, table_size}
 use Rattle.dg_stop.specs.Phases.{FinishedBelow, TellsAll, TellsKnown, bits_in, bits_of_held, flag_in, known_at, size_in, size_of}
 use Rattle.dg_stop.specs.Readings.{HadHeader, IsSeen}
@@ -48,7 +48,7 @@ pub record AreCopied (old new : List Places) : Type 0 where
 
 -- What becomes of the members that are attached: on those that have only a prepared header the committed one is written, and where that fails the
 -- member falls.
-pub record Attaches {S : Type 0} (rack : Ghosts S) (known : List Bool) (top : ℕ) (t : Attached) (memory : Memory) (old new : S) : Type 0 where
+pub record Attaches {S : Type 0} (rack : Ghosts S) (known failed : List Bool) (top : ℕ) (t : Attached) (memory : Memory) (old new : S) : Type 0 where
   pub served : List Bool
   pub serves : List Bool
   pub prepared : (q : ℕ) → flag_in served q ≡ is_prepared (head_at t.heads q)
@@ -56,7 +56,7 @@ pub record Attaches {S : Type 0} (rack : Ghosts S) (known : List Bool) (top : �
   pub current : memory.current ≡ t.places
   pub last : AreCopied t.places.items memory.last.items
   pub stands : (q : ℕ) → stands_in memory q ≡ (is_some (head_at t.heads q) && not (fell_now served serves q))
-  pub fell : (q : ℕ) → q < 32 → fell_in memory q ≡ (not (flag_in known q) || fell_now served serves q)
+  pub fell : (q : ℕ) → q < 32 → fell_in memory q ≡ (flag_in failed q || fell_now served serves q)
   pub fell_low : (q : ℕ) → fell_in memory q ≡ true → q < 32
   pub known_is : memory.known ≡ known
   pub room : memory.room ≡ t.lead.room
@@ -64,28 +64,33 @@ pub record Attaches {S : Type 0} (rack : Ghosts S) (known : List Bool) (top : �
   pub top_is : memory.top ≡ top
 
 -- No member is attached, and there is memory for none.
-pub record AttachesNone (known : List Bool) (top : ℕ) (memory : Memory) : Type 0 where
+pub record AttachesNone (known failed : List Bool) (top : ℕ) (memory : Memory) : Type 0 where
   pub current : length memory.current.items ≡ 0
   pub stands : (q : ℕ) → stands_in memory q ≡ false
-  pub fell : (q : ℕ) → q < 32 → fell_in memory q ≡ not (flag_in known q)
-  pub fell_low : (q : ℕ) → fell_in memory q ≡ true → q < 32
+  pub fell : memory.fell ≡ failed
   pub known_is : memory.known ≡ known
   pub room : memory.room ≡ 0
   pub commit : memory.commit ≡ 0
   pub top_is : memory.top ≡ top
 
 -- what is made of what was read
-abbrev pub AttachesBy : {S : Type 0} → Ghosts S → Option Attached → List Bool → ℕ → Memory → List ℕ → S → S → Type 0
-AttachesBy rack None known top memory extra old new = AttachesNone known top memory × (extra ≡ []) × (new ≡ old)
-AttachesBy rack (Some t) known top memory extra old new = Attaches rack known top t memory old new × (extra ≡ t.extra.items)
+abbrev pub AttachesBy : {S : Type 0} → Ghosts S → Option Attached → List Bool → List Bool → ℕ → Memory → List ℕ → S → S → Type 0
+AttachesBy rack None known failed top memory extra old new = AttachesNone known failed top memory × (extra ≡ []) × (new ≡ old)
+AttachesBy rack (Some t) known failed top memory extra old new = Attaches rack known failed top t memory old new × (extra ≡ t.extra.items)
 
 abbrev pub AttachesAll : {S : Type 0} → Ghosts S → Reading → Memory → List ℕ → S → S → Type 0
-AttachesAll rack reading memory extra old new = AttachesBy rack reading.attached reading.known reading.top memory extra old new
+AttachesAll rack reading memory extra old new = AttachesBy rack reading.attached reading.known reading.failed reading.top memory extra old new
 
 -- ---- the whole
 
+-- a member begins as the label of a plain array, and is as it was
+pub record IsLabeledOn {S : Type 0} (rack : Ghosts S) (q : ℕ) (old new : S) : Type 0 where
+  pub same : Told IsSame (rack.bytes old q) (rack.bytes new q)
+  pub labeled : IfSome (rack.bytes new q) IsLabeled
+
 -- What an opening leaves of the rack behind: it looks for members below 32, reads them and writes their headers, and a member's count of faults
--- rises exactly where a call on it failed.
+-- rises exactly where a call on it failed. One that isn't known has failed a call, or begins as the label of a plain array; only a member that is too
+-- short for a header is known though it does.
 pub record LeavesOpening {S : Type 0} (rack : Ghosts S) (known fell : ℕ → Bool) (old new : S) : Type 0 where
   pub made : Makes rack IsOpening old new
   pub same_rack : rack.name new ≡ rack.name old
@@ -93,12 +98,15 @@ pub record LeavesOpening {S : Type 0} (rack : Ghosts S) (known fell : ℕ → Bo
   pub tells : StillTold (rack.bytes old) (rack.bytes new)
   pub rise : CountsRise (rack.counts old) (rack.counts new)
   pub low : (q : ℕ) → known q ≡ true → q < 32
-  pub lost : (q : ℕ) → q < 32 → known q ≡ false → fell q ≡ true
+  pub lost : (q : ℕ) → q < 32 → known q ≡ false → (fell q ≡ true) ⊎ IsLabeledOn rack q old new
+  pub bare : (q : ℕ) → known q ≡ true → Told (λ before after. IsBareLabeled q before) (rack.bytes old q) (rack.bytes new q)
   pub rose : (q : ℕ) → fell q ≡ true → Rose ((rack.counts old).faults q) ((rack.counts new).faults q)
   pub quiet : (q : ℕ) → fell q ≡ false → (rack.counts new).faults q ≡ (rack.counts old).faults q
 
-abbrev pub HasNoHeader : ℕ → List ℕ → Type 0
-HasNoHeader q all = (h : Header) → HasHeader q all h → ⊥
+-- a call on a member failed just where it has a mark
+pub record AreFailed {S : Type 0} (rack : Ghosts S) (failed : List Bool) (old new : S) : Type 0 where
+  pub rose : (q : ℕ) → flag_in failed q ≡ true → Rose ((rack.counts old).faults q) ((rack.counts new).faults q)
+  pub quiet : (q : ℕ) → flag_in failed q ≡ false → (rack.counts new).faults q ≡ (rack.counts old).faults q
 
 -- It is plain: no member on which no call failed has a header, nothing was written, and there are no extra bytes.
 pub record OpensPlain {S : Type 0} (rack : Ghosts S) (extra : List ℕ) (old new : S) : Type 0 where
@@ -106,6 +114,7 @@ pub record OpensPlain {S : Type 0} (rack : Ghosts S) (extra : List ℕ) (old new
   pub fell : ℕ → Bool
   pub leaves : LeavesOpening rack known fell old new
   pub same : (q : ℕ) → Told IsSame (rack.bytes old q) (rack.bytes new q)
+  pub writes : (rack.counts new).writes ≡ (rack.counts old).writes
   pub none : (q : ℕ) → known q ≡ true → IfSome (rack.bytes new q) (HasNoHeader q)
   pub extra_is : extra ≡ []
 
@@ -178,6 +187,8 @@ pub record OpensDouble {R : Type 0} (rack : Ghosts R) (old : R) (it : Double R) 
   pub leaves : LeavesOpening rack (known_in it.memory) (fell_in it.memory) old it.rack
   pub tally : HasNoCalls it.tally
   pub standing : (q : ℕ) → stands_in it.memory q ≡ true → (known_in it.memory q ≡ true) × (fell_in it.memory q ≡ false)
+  -- a member that neither stands nor fell has no bytes
+  pub bare : (q : ℕ) → stands_in it.memory q ≡ false → fell_in it.memory q ≡ false → sizes_in it.memory q ≡ 0
   pub some : HasSome rack (known_in it.memory) old it.rack
   pub top : IsSeen rack it.memory.top old it.rack
   -- only headers of the last commit were written

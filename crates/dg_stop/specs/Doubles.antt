@@ -205,11 +205,22 @@ IsPlainOn q (blanks p) = p ≢ q
 IsPlainOn q (calls p) = Unit {0}
 IsPlainOn q (extends p) = p ≢ q
 
+-- a call that looks for member q or reads or writes it, or is on another one
+abbrev pub IsLookOrPlainOn : ℕ → RackCall → Type 0
+IsLookOrPlainOn q (looks p) = Unit {0}
+IsLookOrPlainOn q (blanks p) = p ≢ q
+IsLookOrPlainOn q (calls p) = Unit {0}
+IsLookOrPlainOn q (extends p) = p ≢ q
+
 -- a member is left alone behind: it has the bytes, the count of faults and the standing that it had
 pub record LeavesAlone {S : Type 0} (rack : Ghosts S) (q : ℕ) (old new : S) : Type 0 where
   pub bytes : Told IsSame (rack.bytes old q) (rack.bytes new q)
   pub faults : (rack.counts new).faults q ≡ (rack.counts old).faults q
   pub stands : rack.stands new q ≡ rack.stands old q
+
+-- each member that stands is known
+abbrev pub AreKnown : Memory → Type 0
+AreKnown memory = (q : ℕ) → stands_in memory q ≡ true → known_in memory q ≡ true
 
 pub record DoubleMade {R : Type 0} (rack : Ghosts R) (old : Double R) (made : List RackCall) (new : Double R) : Type 0 where
   pub after : After (double_words rack) made old new
@@ -218,9 +229,18 @@ pub record DoubleMade {R : Type 0} (rack : Ghosts R) (old : Double R) (made : Li
   -- The own count of a member that the rack behind tells rose only where that behind did, unless one of the calls looks for it, makes it anew or extends it.
   pub cause : (q : ℕ) → rack.tells new.rack q → Each (IsPlainOn q) made → slice_index old.tally.faults q < slice_index new.tally.faults q
       → Rose ((rack.counts old.rack).faults q) ((rack.counts new.rack).faults q)
+  -- Where calls that look for it count, too, it may have fallen before; and it fell only where the count behind rose.
+  pub looked : (q : ℕ) → rack.tells new.rack q → Each (IsLookOrPlainOn q) made → slice_index old.tally.faults q < slice_index new.tally.faults q
+      → Rose ((rack.counts old.rack).faults q) ((rack.counts new.rack).faults q) ⊎ (fell_in old.memory q ≡ true)
+  pub fell : (q : ℕ) → rack.tells new.rack q → Each (IsLookOrPlainOn q) made → fell_in new.memory q ≡ true
+      → Rose ((rack.counts old.rack).faults q) ((rack.counts new.rack).faults q) ⊎ (fell_in old.memory q ≡ true)
   -- A member that none of the calls is on is left alone behind, and stands in memory as it did.
   pub alone : (q : ℕ) → Each (IsNotOn q) made → LeavesAlone rack q old.rack new.rack × (stands_in new.memory q ≡ stands_in old.memory q)
   pub room : new.memory.room ≡ old.memory.room
+  -- A member stays known, but where its own count rose.
+  pub known : (q : ℕ) → known_in old.memory q ≡ true → (known_in new.memory q ≡ true) ⊎ Rose (slice_index old.tally.faults q) (slice_index new.tally.faults q)
+  -- Where each member that stands was known, each that stands is.
+  pub standing : AreKnown old.memory → AreKnown new.memory
 
 -- ---- what a call leaves
 
@@ -247,6 +267,13 @@ pub record Steps {S T E : Type 0} (rack : Ghosts S) (call : RackCall) (q : ℕ) 
   pub rise : CountsRise (rack.counts old) (rack.counts new)
   pub disks : DisksAfter (call ∷ []) (rack.disks old) (rack.disks new)
   pub room : later.room ≡ memory.room
+  -- where it was done the member stays known
+  pub known_on : OnOk result (known_in memory q ≡ true → known_in later q ≡ true)
+  pub others_known : (r : ℕ) → r ≢ q → known_in later r ≡ known_in memory r
+  -- and fell only if it had before, where it wasn't made anew or extended
+  pub fell_on : IsLookOrPlainOn q call → OnOk result (fell_in later q ≡ true → fell_in memory q ≡ true)
+  pub others_fell : (r : ℕ) → r ≢ q → fell_in later r ≡ fell_in memory r
+  pub standing : AreKnown memory → AreKnown later
 
 -- what was kept is kept
 abbrev pub KeepsStill : {S : Type 0} → Ghosts S → Memory → Memory → S → S → Type 0

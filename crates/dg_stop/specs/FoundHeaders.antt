@@ -6,7 +6,7 @@ use Rattle.dg_io.specs.RackCalls.RackCall.{looks, calls}
 use Rattle.dg_io.specs.Told.{IsSame, StillTold, Told}
 use Rattle.dg_io.specs.declared.outside.Rack.{Ghosts}
 use Rattle.dg_model.specs.Causes.{Rose}
-use Rattle.dg_stop.specs.Headers.{Header as Value, HasHeader, IsHeader, header_bytes}
+use Rattle.dg_stop.specs.Headers.{Header as Value, HasHeader, IsBareLabeled, IsHeader, IsLabeled, header_bytes}
 use Rattle.dg_stop.specs.Layouts.{double_size}
 use Rattle.dg_stop.specs.Phases.{flag_in}
 use Rattle.dg_stop.specs.Serving.{Serves}
@@ -68,10 +68,16 @@ pub record Bears {S : Type 0} (rack : Ghosts S) (q : ℕ) (now : S) (h : Header)
   pub stands : rack.stands now q ≡ true
   pub long : IfSome (rack.bytes now q) (λ all. length all ≡ double_size h.size h.room)
 
--- those that were found are the headers of member q, and it stands where there is one
+-- those that were found are the headers of member q, which has none where it begins as a label, and it stands where there is one
 pub record AreOn {S : Type 0} (rack : Ghosts S) (q : ℕ) (now : S) (found : Found) : Type 0 where
   pub headers : IfSome (rack.bytes now q) (AreHeadersOf q found)
+  pub bare : IfSome (rack.bytes now q) (IsBareLabeled q)
   pub bears : (h : Header) → IsIn h found → Bears rack q now h
+
+-- what is found of member q where no call fails: its headers, or none where it begins as a label
+abbrev pub IsSeenOn : {S : Type 0} → Ghosts S → ℕ → S → Option Found → Type 0
+IsSeenOn rack q now None = IfSome (rack.bytes now q) IsLabeled
+IsSeenOn rack q now (Some found) = AreOn rack q now found
 
 -- ---- calls that look
 
@@ -84,6 +90,7 @@ pub record LooksAt {S T E : Type 0} (rack : Ghosts S) (q : ℕ) (result : Result
   pub made : Makes rack (IsLook q) old new
   pub serves : Serves rack q result old new
   pub same : Told IsSame (rack.bytes old q) (rack.bytes new q)
+  pub writes : (rack.counts new).writes ≡ (rack.counts old).writes
 
 -- a call of one of the members below 32
 pub record IsOpening (call : RackCall) : Type 0 where
@@ -91,13 +98,15 @@ pub record IsOpening (call : RackCall) : Type 0 where
   pub low : member < 32
   pub is : IsLook member call
 
--- What was found of member q: its headers, or that a call on it failed.
-pub record IsFound {S : Type 0} (rack : Ghosts S) (q : ℕ) (found : Found) (known : Bool) (old now : S) : Type 0 where
+-- What was found of member q: its headers; or that a call on it failed, or that it begins as a label, and then it isn't known.
+pub record IsFound {S : Type 0} (rack : Ghosts S) (q : ℕ) (found : Found) (known failed : Bool) (old now : S) : Type 0 where
   pub same : Told IsSame (rack.bytes old q) (rack.bytes now q)
   pub on : known ≡ true → AreOn rack q now found
   pub none : known ≡ false → (h : Header) → IsIn h found → ⊥
-  pub rose : known ≡ false → Rose ((rack.counts old).faults q) ((rack.counts now).faults q)
-  pub quiet : known ≡ true → (rack.counts now).faults q ≡ (rack.counts old).faults q
+  pub lost : known ≡ false → (failed ≡ true) ⊎ IfSome (rack.bytes now q) IsLabeled
+  pub unknown : failed ≡ true → known ≡ false
+  pub rose : failed ≡ true → Rose ((rack.counts old).faults q) ((rack.counts now).faults q)
+  pub quiet : failed ≡ false → (rack.counts now).faults q ≡ (rack.counts old).faults q
 
 -- a member that wasn't called
 pub record IsPassed {S : Type 0} (rack : Ghosts S) (q : ℕ) (found : Found) (old now : S) : Type 0 where
@@ -106,10 +115,12 @@ pub record IsPassed {S : Type 0} (rack : Ghosts S) (q : ℕ) (found : Found) (ol
   pub faults : (rack.counts now).faults q ≡ (rack.counts old).faults q
 
 -- the members below n were looked at
-pub record AreFound {S : Type 0} (rack : Ghosts S) (n : ℕ) (found : List Found) (known : List Bool) (old now : S) : Type 0 where
+pub record AreFound {S : Type 0} (rack : Ghosts S) (n : ℕ) (found : List Found) (known failed : List Bool) (old now : S) : Type 0 where
   pub made : Makes rack IsOpening old now
   pub steady_on : rack.steady old ↔ rack.steady now
   pub tells : StillTold (rack.bytes old) (rack.bytes now)
-  pub below : (q : ℕ) → q < n → IsFound rack q (found_at found q) (flag_in known q) old now
+  pub writes : (rack.counts now).writes ≡ (rack.counts old).writes
+  pub below : (q : ℕ) → q < n → IsFound rack q (found_at found q) (flag_in known q) (flag_in failed q) old now
   pub rest : (q : ℕ) → n ≤ q → IsPassed rack q (found_at found q) old now
   pub flags : (q : ℕ) → n ≤ q → q < 32 → flag_in known q ≡ true
+  pub unfailed : (q : ℕ) → n ≤ q → flag_in failed q ≡ false

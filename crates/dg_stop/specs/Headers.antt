@@ -1,5 +1,5 @@
 -- The header of a double member, and when bytes are one.
-use Rattle.std.specs.Prelude.{◌≡◌, ◌≤◌, ◌<◌, ◌+◌, ◌^◌, ◌++◌, ℕ, Bool, List, [], ◌∷◌, if◌then◌else◌, length, codes, slice_range}
+use Rattle.std.specs.Prelude.{◌≡◌, ◌≤◌, ◌<◌, ◌+◌, ◌^◌, ◌++◌, ◌⊎◌, ℕ, Bool, List, [], ◌∷◌, if◌then◌else◌, length, codes, slice_range, take}
 use Rattle.byteorder.specs.Endian.{little_bytes}
 use Rattle.dg_model.specs.Blocks.{padded}
 use Rattle.dg_stop.specs.Layouts.{bits_of, double_size, header_place, names_second, seen, table_place, table_size}
@@ -23,6 +23,10 @@ header_bytes h =
     (codes "DGRAID-S" ++ little_bytes 8 h.sequence ++ mark_byte h.committed ∷ h.member ∷ 0 ∷ 0 ∷ 0 ∷ 0 ∷ 0 ∷ 0 ∷ []
     ++ little_bytes 8 h.size ++ little_bytes 4 h.room ++ little_bytes 4 h.extra)
 
+-- the bytes begin as the label of a plain array does
+abbrev pub IsLabeled : List ℕ → Type 0
+IsLabeled all = (take 8 all ≡ codes "DGRAID-1") ⊎ (take 8 all ≡ codes "DGRAID-2")
+
 -- numbers that a header may have
 pub record IsHeader (h : Header) : Type 0 where
   pub first : 1 ≤ h.sequence
@@ -38,6 +42,13 @@ pub record HasHeader (q : ℕ) (all : List ℕ) (h : Header) : Type 0 where
   pub own : h.member ≡ q
   pub bytes : slice_range all (header_place h.sequence) (header_place h.sequence + 512) ≡ header_bytes h
   pub long : length all ≡ double_size h.size h.room
+
+abbrev pub HasNoHeader : ℕ → List ℕ → Type 0
+HasNoHeader q all = (h : Header) → HasHeader q all h → ⊥
+
+-- where the bytes begin as a label, no header counts
+abbrev pub IsBareLabeled : ℕ → List ℕ → Type 0
+IsBareLabeled q all = IsLabeled all → HasNoHeader q all
 
 -- the bytes of a table
 abbrev pub header_table : Header → ℕ

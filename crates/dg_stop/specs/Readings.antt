@@ -39,8 +39,8 @@ pub record LosesFound {S : Type 0} (rack : Ghosts S) (found : List Found) (old n
   pub is : IsIn header (found_at found q)
 
 -- What calls that read leave of what was found, where a call that fails takes its member's headers away.
-pub record ReadsOn {S : Type 0} (rack : Ghosts S) (found : List Found) (known : List Bool) (old : S) (later : List Found) (knows : List Bool) (new : S) : Type 0 where
-  pub on : (first : S) → AreFound rack 32 found known first old → AreFound rack 32 later knows first new
+pub record ReadsOn {S : Type 0} (rack : Ghosts S) (found : List Found) (known failed : List Bool) (old : S) (later : List Found) (knows fails : List Bool) (new : S) : Type 0 where
+  pub on : (first : S) → AreFound rack 32 found known failed first old → AreFound rack 32 later knows fails first new
   pub only : (q : ℕ) (h : Header) → IsIn h (found_at later q) → IsIn h (found_at found q)
   pub same : (q : ℕ) → Told IsSame (rack.bytes old q) (rack.bytes new q)
 
@@ -75,7 +75,7 @@ IsSeen rack top old new = (top ≡ 0) ⊎ HadSequence rack top old new
 
 -- the headers of the members on which no call failed, the greatest sequence that was seen, and the tables
 pub record HasRead {S : Type 0} (rack : Ghosts S) (reading : Reading) (old new : S) : Type 0 where
-  pub found : AreFound rack 32 reading.found reading.known old new
+  pub found : AreFound rack 32 reading.found reading.known reading.failed old new
   pub many : length reading.known ≡ 32
   pub most : (q : ℕ) (h : Header) → IsIn h (found_at reading.found q) → h.sequence ≤ reading.top
   pub seen : IsSeen rack reading.top old new

@@ -1,12 +1,12 @@
 -- What a rack over a rack means that is plain, or keeps two places for each page. A plain one is the rack behind, and keeps no checkpoint.
-use Rattle.std.specs.Prelude.{◌≡◌, ◌&&◌, ℕ, Bool, false, List, Option, None}
+use Rattle.std.specs.Prelude.{◌≡◌, ◌&&◌, ℕ, Bool, true, false, List, Option, None}
 use Rattle.dg_io.specs.Disks.{DiskStates}
 use Rattle.dg_io.specs.Kept.{Kept}
 use Rattle.dg_io.specs.RackCalls.{RackCall}
 use Rattle.dg_io.specs.declared.outside.Rack.{Ghosts}
 use Rattle.dg_model.specs.States.{Counts}
 use Rattle.dg_stop.specs.DoubleCommits.{CommitsBehind, double_room}
-use Rattle.dg_stop.specs.Doubles.{DoubleMade, HasNoCalls, IsBlank, double_counts, double_disks, double_keeps, double_name, double_steady, seen_in, stands_in}
+use Rattle.dg_stop.specs.Doubles.{DoubleMade, HasNoCalls, IsBlank, double_counts, double_disks, double_keeps, double_name, double_steady, known_in, seen_in, stands_in}
 use Rattle.dg_stop.specs.declared.stop_racks.StopRack.{StopRack}
 use Rattle.dg_stop.specs.declared.stop_racks.StopRack.TheVariants.{Plain, Doubled}
 
@@ -61,6 +61,15 @@ stop_room (Doubled it) = double_room it
 abbrev pub stop_stands_in : {R : Type 0} → StopRack R → ℕ → Bool
 stop_stands_in (Plain it) q = false
 stop_stands_in (Doubled it) q = stands_in it.memory q
+
+-- whether a member is known: it was made anew or opened, and no making of it has failed since. Each one of a plain rack is
+abbrev pub stop_known : {R : Type 0} → StopRack R → ℕ → Bool
+stop_known (Plain it) q = true
+stop_known (Doubled it) q = known_in it.memory q
+
+-- each member that stands in memory is known
+abbrev pub StandKnown : {R : Type 0} → StopRack R → Type 0
+StandKnown it = (q : ℕ) → stop_stands_in it q ≡ true → stop_known it q ≡ true
 
 -- it stays plain or double, and what was made of it was made of that
 abbrev pub made_by : {R : Type 0} → Ghosts R → StopRack R → List RackCall → StopRack R → Type 0

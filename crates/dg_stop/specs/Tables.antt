@@ -1,5 +1,5 @@
 -- The tables that an opening reads.
-use Rattle.std.specs.Prelude.{◌≡◌, ◌≤◌, ◌<◌, ◌^◌, ◌⊎◌, ℕ, false, List, [], Option, Some, None, Bool, IfSome, IsSome, length, slice_get, slice_index_or, slice_set}
+use Rattle.std.specs.Prelude.{◌≡◌, ◌≤◌, ◌<◌, ◌^◌, ◌⊎◌, ℕ, true, false, List, [], Option, Some, None, Bool, IfSome, IsSome, length, slice_get, slice_index_or, slice_set}
 use Rattle.dg_io.specs.Told.{IsSame, Told}
 use Rattle.dg_io.specs.declared.outside.Rack.{Ghosts}
 use Rattle.dg_model.specs.Members.{partner_of}
@@ -32,14 +32,14 @@ AreShort heads most = (q : ℕ) (h : Header) → head_at heads q ≡ Some h → 
 -- calls that changed nothing, and of which none failed
 pub record FindsOn {S : Type 0} (rack : Ghosts S) (old new : S) : Type 0 where
   pub same : (q : ℕ) → Told IsSame (rack.bytes old q) (rack.bytes new q)
-  pub on : (found : List Found) (known : List Bool) (first : S) → AreFound rack 32 found known first old → AreFound rack 32 found known first new
+  pub on : (found : List Found) (known failed : List Bool) (first : S) → AreFound rack 32 found known failed first old → AreFound rack 32 found known failed first new
 
 -- calls that changed nothing, the last of which failed, on this member
 pub record LosesOn {S : Type 0} (rack : Ghosts S) (q : ℕ) (old new : S) : Type 0 where
   pub same : (q : ℕ) → Told IsSame (rack.bytes old q) (rack.bytes new q)
   pub low : q < 32
-  pub on : (found : List Found) (known : List Bool) (first : S) → length found ≡ 32 → length known ≡ 32 → AreFound rack 32 found known first old
-      → AreFound rack 32 (slice_set found q no_headers) (slice_set known q false) first new
+  pub on : (found : List Found) (known failed : List Bool) (first : S) → length found ≡ 32 → length known ≡ 32 → length failed ≡ 32 → AreFound rack 32 found known failed first old
+      → AreFound rack 32 (slice_set found q no_headers) (slice_set known q false) (slice_set failed q true) first new
 
 -- what is kept in memory of a member that is attached by this header: where its pages stand by the header's table
 pub record HasTable {S : Type 0} (rack : Ghosts S) (now : S) (h : Header) (q : ℕ) (held : Places) : Type 0 where

@@ -1,8 +1,9 @@
--- How the counts of a rack that is plain or double go with those of the rack behind it, over calls that read and write, and which members are left
--- alone behind. Laws for the crates above.
-use Rattle.std.specs.Prelude.{◌≡◌, ◌≤◌, ◌<◌, ℕ, false, IsSome, List, None, Option, Some, refl}
-use Rattle.std.proofs.Common.{ap, arith, inl, inr, subst, sym}
-use Rattle.std.proofs.lemmas.Bool.{cases_lt}
+-- How the counts of a rack that is plain or double go with those of the rack behind it, over calls that read and write, which members are left
+-- alone behind, and which are known. Laws for the crates above.
+use Rattle.std.specs.Prelude.{◌≡◌, ◌≤◌, ◌<◌, ◌⊎◌, ℕ, Bool, false, true, IsSome, List, None, Option, Some, refl}
+use Rattle.std.proofs.Common.{◌∙◌, ap, arith, inl, inr, subst, sym}
+use Rattle.std.proofs.lemmas.Bool.{cases_lt, false≢true}
+use Rattle.dg_io.specs.Kept.{Kept}
 use Rattle.dg_io.specs.MadeLaws.{each_such}
 use Rattle.dg_io.specs.RackCalls.{Each, IsNotOn, IsReadOrWrite, RackCall, blanks, calls, extends, looks}
 use Rattle.dg_io.specs.RackWords.{After, MadeOnly}
@@ -11,9 +12,12 @@ use Rattle.dg_io.specs.declared.outside.Rack.{Ghosts}
 use Rattle.dg_model.specs.Causes.{Rose}
 use Rattle.dg_model.specs.States.{Counts, CountsRise}
 use Rattle.dg_stop.specs.DoubleLaws.{alone_after, alone_none}
-use Rattle.dg_stop.specs.Doubles.{Double, DoubleMade, IsPlainOn, LeavesAlone, double_bytes, stands_in}
+use Rattle.dg_stop.specs.DoubleOpenings.{IsOfOne, Opens}
+use Rattle.dg_stop.specs.Doubles.{IsPlainOn, LeavesAlone, double_bytes}
+use Rattle.dg_stop.specs.Phases.{TellsAll, flag_in, known_at}
+use Rattle.dg_stop.specs.Reopens.{Reopened}
 use Rattle.dg_stop.specs.StopCalls.{behind}
-use Rattle.dg_stop.specs.StopRacks.{StopCommits, StopMade, commits_by, made_by, stop_bytes, stop_counts, stop_name, stop_room, stop_stands_in, stop_tells, stop_words}
+use Rattle.dg_stop.specs.StopRacks.{IsNew, StandKnown, StopCommits, StopMade, commits_by, made_by, stop_bytes, stop_counts, stop_keeps, stop_known, stop_name, stop_room, stop_stands_in, stop_tells, stop_words}
 use Rattle.dg_stop.specs.declared.stop_racks.StopRack.{StopRack}
 use Rattle.dg_stop.specs.declared.stop_racks.StopRack.TheVariants.{Plain, Doubled}
 
@@ -23,6 +27,13 @@ pub record RisesWithBehind {R : Type 0} (rack : Ghosts R) (old new : StopRack R)
   pub told_before : (q : ℕ) → rack.tells (behind new) q → rack.tells (behind old) q
   pub tied : (q : ℕ) → rack.tells (behind new) q → (stop_counts rack old).faults q < (stop_counts rack new).faults q
       → Rose ((rack.counts (behind old)).faults q) ((rack.counts (behind new)).faults q)
+
+-- what the known members of the rack behind are reopened as is kept
+pub record KeepsOpened {R : Type 0} (rack : Ghosts R) (old : R) (it : StopRack R) : Type 0 where
+  pub none : stop_keeps rack it None
+  pub some : (kept : Kept)
+      → (TellsAll (rack.bytes (behind it)) → Reopened (known_at (stop_known it) (rack.bytes old)) kept × IsOfOne (known_at (stop_known it) (rack.bytes old)) kept)
+      → stop_keeps rack it (Some kept)
 
 -- a call that reads or writes is a plain one on each member
 plain_on : (q : ℕ) (call : RackCall) → IsReadOrWrite call → IsPlainOn q call
@@ -173,6 +184,16 @@ module _ {R : Type 0} (rack : Ghosts R) where
   pub commits_rise : (a b : StopRack R) → StopCommits rack a b → CountsRise (rack.counts (behind a)) (rack.counts (behind b))
   commits_rise a b is = commits_rise_by a b is.by
 
+  commits_own_by : (a b : StopRack R) → commits_by rack a b → CountsRise (stop_counts rack a) (stop_counts rack b)
+  commits_own_by (Plain a) (Plain b) same = subst (λ (s : R). CountsRise (rack.counts a) (rack.counts s)) (sym same) (rise_none (rack.counts a))
+  commits_own_by (Plain a) (Doubled b) is = absurd is
+  commits_own_by (Doubled a) (Plain b) is = absurd is
+  commits_own_by (Doubled a) (Doubled b) is = is.own
+
+  -- nor does an own one
+  pub commits_own : (a b : StopRack R) → StopCommits rack a b → CountsRise (stop_counts rack a) (stop_counts rack b)
+  commits_own a b is = commits_own_by a b is.by
+
   commits_alone_by : (a b : StopRack R) → commits_by rack a b → (q : ℕ) → stop_stands_in a q ≡ false → LeavesAlone rack q (behind a) (behind b)
   commits_alone_by (Plain a) (Plain b) is q out = subst (λ (s : R). LeavesAlone rack q a s) (sym is) (alone_none rack q a)
   commits_alone_by (Plain a) (Doubled b) is q out = absurd is
@@ -233,6 +254,71 @@ module _ {R : Type 0} (rack : Ghosts R) where
   pub commits_tell : (a b : StopRack R) → StopCommits rack a b → StillTold (stop_bytes rack a) (stop_bytes rack b)
   commits_tell a b is q told = commits_tell_by a b is.by q told
 
+  -- ---- members that are known
+
+  known_by : (a b : StopRack R) (made : List RackCall) → made_by rack a made b → (q : ℕ) → stop_known a q ≡ true
+      → (stop_known b q ≡ true) ⊎ Rose ((stop_counts rack a).faults q) ((stop_counts rack b).faults q)
+  known_by (Plain a) (Plain b) made is q known = inl refl
+  known_by (Plain a) (Doubled b) made is q known = absurd is
+  known_by (Doubled a) (Plain b) made is q known = absurd is
+  known_by (Doubled a) (Doubled b) made is q known = is.known q known
+
+  -- a member stays known, but where its count rose
+  pub calls_known : (a b : StopRack R) (made : List RackCall) → StopMade rack a made b → (q : ℕ) → stop_known a q ≡ true
+      → (stop_known b q ≡ true) ⊎ Rose ((stop_counts rack a).faults q) ((stop_counts rack b).faults q)
+  calls_known a b made is = known_by a b made is.by
+
+  stand_known_by : (a b : StopRack R) (made : List RackCall) → made_by rack a made b → StandKnown a → StandKnown b
+  stand_known_by (Plain a) (Plain b) made is known = λ q at. refl
+  stand_known_by (Plain a) (Doubled b) made is known = absurd is
+  stand_known_by (Doubled a) (Plain b) made is known = absurd is
+  stand_known_by (Doubled a) (Doubled b) made is known = is.standing known
+
+  -- where each member that stands was known, each that stands is
+  pub calls_stand_known : (a b : StopRack R) (made : List RackCall) → StopMade rack a made b → StandKnown a → StandKnown b
+  calls_stand_known a b made is = stand_known_by a b made is.by
+
+  commits_known_by : (a b : StopRack R) → commits_by rack a b → (q : ℕ) → stop_known b q ≡ stop_known a q
+  commits_known_by (Plain a) (Plain b) is q = refl
+  commits_known_by (Plain a) (Doubled b) is q = absurd is
+  commits_known_by (Doubled a) (Plain b) is q = absurd is
+  commits_known_by (Doubled a) (Doubled b) is q = ap (λ (flags : List Bool). flag_in flags q) is.known
+
+  -- a commit leaves it known just where it was
+  pub commits_known : (a b : StopRack R) → StopCommits rack a b → (q : ℕ) → stop_known b q ≡ stop_known a q
+  commits_known a b is = commits_known_by a b is.by
+
+  commits_stood_by : (a b : StopRack R) → commits_by rack a b → (q : ℕ) → stop_stands_in b q ≡ true → stop_stands_in a q ≡ true
+  commits_stood_by (Plain a) (Plain b) is q at = at
+  commits_stood_by (Plain a) (Doubled b) is q at = absurd is
+  commits_stood_by (Doubled a) (Plain b) is q at = absurd is
+  commits_stood_by (Doubled a) (Doubled b) is q at = is.stood q at
+
+  pub commits_stand_known : (a b : StopRack R) → StopCommits rack a b → StandKnown a → StandKnown b
+  commits_stand_known a b is known q at = commits_known a b is q ∙ known q (commits_stood_by a b is.by q at)
+
+  -- ---- an opening
+
+  pub opened_stand_known : (old : R) (it : StopRack R) (extra : List ℕ) → Opens rack old it extra → StandKnown it
+  opened_stand_known old (Plain it) extra opens q at = refl
+  opened_stand_known old (Doubled it) extra opens q at = (opens.standing q at).0
+
+  -- a double rack keeps what its known members are reopened as
+  pub opened_keeps : (old : R) (it : StopRack R) (extra : List ℕ) (room : ℕ) → Opens rack old it extra → rack.steady old → stop_room it ≡ Some room → KeepsOpened rack old it
+  opened_keeps old (Plain it) extra room opens steady has = absurd (cc has)
+  opened_keeps old (Doubled it) extra room opens steady has = record { none = opens.keeps_none steady; some = opens.keeps steady }
+
+  -- ---- what is kept
+
+  pub keeps_reopened : (it : StopRack R) (kept : Kept) → stop_keeps rack it (Some kept) → TellsAll (rack.bytes (behind it)) → Reopened (known_at (stop_known it) (rack.bytes (behind it))) kept
+  keeps_reopened (Plain it) kept keeps told = absurd keeps
+  keeps_reopened (Doubled it) kept keeps told = (keeps.1 told).1.reopened
+
+  pub keeps_steady : (it : StopRack R) (kept : Option Kept) → stop_keeps rack it kept → rack.steady (behind it)
+  keeps_steady (Plain it) kept keeps = absurd keeps
+  keeps_steady (Doubled it) None keeps = keeps.0
+  keeps_steady (Doubled it) (Some kept) keeps = keeps.0
+
   -- ---- what a rack means, by the rack behind
 
   pub name_behind : (it : StopRack R) → stop_name rack it ≡ rack.name (behind it)
@@ -270,3 +356,15 @@ module _ {R : Type 0} (rack : Ghosts R) where
   plain_rise (Plain a) (Plain b) lacks none rise = rise
   plain_rise (Plain a) (Doubled b) lacks none rise = absurd (cc none)
   plain_rise (Doubled a) b lacks none rise = absurd (cc lacks)
+
+-- ---- a new double rack
+
+-- no member of it is known
+pub new_unknown : {R : Type 0} (old : R) (members most room : ℕ) (it : StopRack R) → IsNew old members most room it → (q : ℕ) → stop_known it q ≡ false
+new_unknown old members most room (Plain it) new q = absurd new
+new_unknown old members most room (Doubled it) new q = new.1.known q
+
+-- none of them stands
+pub new_stand_known : {R : Type 0} (old : R) (members most room : ℕ) (it : StopRack R) → IsNew old members most room it → StandKnown it
+new_stand_known old members most room (Plain it) new q at = absurd new
+new_stand_known old members most room (Doubled it) new q at = absurd (false≢true (sym (new.1.stands q) ∙ at))

@@ -94,28 +94,28 @@ fn standing_of(heads: &Heads, served: &[bool; MEMBERS], serves: &[bool; MEMBERS]
 }
 
 fn is_fallen_at(
-    known: &[bool; MEMBERS],
+    failed: &[bool; MEMBERS],
     served: &[bool; MEMBERS],
     serves: &[bool; MEMBERS],
     member: u8,
 ) -> bool
-    ensures { result ≡ (not (flag_in known.now member) || fell_now served.now serves.now member) }
+    ensures { result ≡ (flag_in failed.now member || fell_now served.now serves.now member) }
 {
-    !has_flag(known, member) || fell_at(served, serves, member)
+    has_flag(failed, member) || fell_at(served, serves, member)
 }
 
 /// The members on which a call failed.
 fn fallen_of(
-    known: &[bool; MEMBERS],
+    failed: &[bool; MEMBERS],
     served: &[bool; MEMBERS],
     serves: &[bool; MEMBERS],
 ) -> [bool; MEMBERS]
-    ensures fell { (q : ℕ) → q < 32 → flag_in result q ≡ (not (flag_in known.now q) || fell_now served.now serves.now q) }
+    ensures fell { (q : ℕ) → q < 32 → flag_in result q ≡ (flag_in failed.now q || fell_now served.now serves.now q) }
     ensures low { (q : ℕ) → flag_in result q ≡ true → q < 32 }
 {
     let mut flags = [false; MEMBERS];
     for member in 0..MEMBERS as u8 {
-        flags[member as usize] = is_fallen_at(known, served, serves, member);
+        flags[member as usize] = is_fallen_at(failed, served, serves, member);
     }
     flags
 }
@@ -126,6 +126,7 @@ pub fn attach_all<R: Rack>(
     alloc: Global,
     rack: &mut R,
     known: &[bool; MEMBERS],
+    failed: &[bool; MEMBERS],
     top: u64,
     attached: Attached,
 ) -> Result<(Memory, Vec<u8>), NoMemory>
@@ -133,7 +134,7 @@ pub fn attach_all<R: Rack>(
     requires sized { (q : ℕ) → is_prepared (head_at attached.heads q) ≡ true → Sized R.Rack attached.places.items attached.lead.room q rack.old }
     requires count { length attached.places.items ≡ 32 }
     requires whole { (q : ℕ) (held : Places) → slice_get attached.places.items q ≡ Some held → length held.bits.items ≡ bits_of held.size }
-    ensures attaches { IfOk result (λ made. Attaches R.Rack known.now top attached made.0 rack.old rack.new) }
+    ensures attaches { IfOk result (λ made. Attaches R.Rack known.now failed.now top attached made.0 rack.old rack.new) }
     ensures extra { IfOk result (λ made. made.1 ≡ attached.extra) }
 {
     let Attached {
@@ -152,7 +153,7 @@ pub fn attach_all<R: Rack>(
         last,
         stands: standing_of(&heads, &served, &serves),
         known: *known,
-        fell: fallen_of(known, &served, &serves),
+        fell: fallen_of(failed, &served, &serves),
         room: lead.room,
         commit: lead.sequence,
         top,
@@ -161,14 +162,18 @@ pub fn attach_all<R: Rack>(
 }
 
 /// What is kept in memory where no member is attached.
-pub fn attach_none(alloc: Global, known: &[bool; MEMBERS], top: u64) -> Result<Memory, NoMemory>
-    ensures { IfOk result (AttachesNone known.now top) }
+pub fn attach_none(
+    alloc: Global,
+    known: &[bool; MEMBERS],
+    failed: &[bool; MEMBERS],
+    top: u64,
+) -> Result<Memory, NoMemory>
+    ensures { IfOk result (AttachesNone known.now failed.now top) }
 {
-    let none = [false; MEMBERS];
     let memory = Memory::blank(alloc, 0, 0, 0)?;
     Ok(Memory {
         known: *known,
-        fell: fallen_of(known, &none, &none),
+        fell: *failed,
         top,
         ..memory
     })
@@ -185,15 +190,16 @@ pub fn attach<R: Rack>(
 {
     let Reading {
         known,
+        failed,
         top,
         attached,
         ..
     } = reading;
     match attached {
         Some(attached) => {
-            let (memory, extra) = attach_all(alloc, rack, &known, top, attached)?;
+            let (memory, extra) = attach_all(alloc, rack, &known, &failed, top, attached)?;
             Ok((memory, extra))
         }
-        None => Ok((attach_none(alloc, &known, top)?, Vec::new(alloc))),
+        None => Ok((attach_none(alloc, &known, &failed, top)?, Vec::new(alloc))),
     }
 }

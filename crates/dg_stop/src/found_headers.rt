@@ -1,7 +1,8 @@
 // The headers that stand on a member.
-ghost use Rattle.std.specs.Prelude.{◌≡◌, ◌≢◌, ◌+◌, ◌*◌, ◌/◌, ◌≤◌, ◌<◌, ◌↔◌, ℕ, true, length, drop, slice_range, IfOk, IfSome, IsTrue, MatchOption};
+ghost use Rattle.std.specs.Prelude.{◌≡◌, ◌≢◌, ◌+◌, ◌*◌, ◌/◌, ◌≤◌, ◌<◌, ◌↔◌, ℕ, false, true, length, drop, slice_range, IfOk, IfSome, IsTrue, MatchOption};
 ghost use Rattle.byteorder.specs.Endian.{little_from};
-ghost use Rattle.dg_stop.specs.FoundHeaders.{AreFound, AreOn, IsCounted, IsPageOf, IsReading, LooksAt, found_at, no_headers};
+ghost use Rattle.dg_stop.specs.FoundHeaders.{AreFound, IsCounted, IsPageOf, IsReading, IsSeenOn, LooksAt, found_at, no_headers};
+ghost use Rattle.dg_stop.specs.Headers.{IsLabeled};
 ghost use Rattle.dg_stop.specs.Layouts.{double_size, pages_of};
 ghost use Rattle.dg_stop.specs.Phases.{flag_in};
 ghost use Rattle.dg_stop.specs.Values.{header_of};
@@ -149,17 +150,27 @@ fn headers_of(both: &[u8; PLACES], member: u8, length: u64) -> Found
     }
 }
 
-/// Reads the headers of a member whose bytes are so many, by one call.
-fn read_headers<R: Rack>(rack: &mut R, member: u8, size: u64) -> Result<Found, Failed>
+/// Whether a member begins as a label of a plain array. In such a one block data stands in the second place of a header.
+fn is_labeled(both: &[u8; PLACES]) -> bool
+    ensures { IsTrue result ↔ IsLabeled both.now }
+{
+    both.starts_with(b"DGRAID-1") || both.starts_with(b"DGRAID-2")
+}
+
+/// Reads the headers of a member whose bytes are so many, by one call. `None` where it begins as a label.
+fn read_headers<R: Rack>(rack: &mut R, member: u8, size: u64) -> Result<Option<Found>, Failed>
     requires stands { R.stands rack.old member ≡ true }
     requires long { IfSome (R.bytes rack.old member) (λ all. length all ≡ size) }
     requires room { 1024 ≤ size }
     ensures looks { LooksAt R.Rack member result rack.old rack.new }
-    ensures found { IfOk result (AreOn R.Rack member rack.new) }
+    ensures found { IfOk result (IsSeenOn R.Rack member rack.new) }
 {
     let mut both = [0; PLACES];
     rack.read(member, 0, &mut both)?;
-    Ok(headers_of(&both, member, size))
+    if is_labeled(&both) {
+        return Ok(None);
+    }
+    Ok(Some(headers_of(&both, member, size)))
 }
 
 /// The bytes of a member that has room for headers. `None` where there is no such member.
@@ -180,27 +191,37 @@ fn attach<R: Rack>(rack: &mut R, member: u8) -> Result<Option<u64>, Failed>
     }
 }
 
-/// The headers that count on a member.
-fn find_at<R: Rack>(rack: &mut R, member: u8) -> Result<Found, Failed>
+/// The headers that count on a member. `None` where it begins as a label.
+fn find_at<R: Rack>(rack: &mut R, member: u8) -> Result<Option<Found>, Failed>
     ensures looks { LooksAt R.Rack member result rack.old rack.new }
-    ensures found { IfOk result (AreOn R.Rack member rack.new) }
+    ensures found { IfOk result (IsSeenOn R.Rack member rack.new) }
 {
     match attach(rack, member)? {
         Some(size) => read_headers(rack, member, size),
-        None => Ok(Found::nothing()),
+        None => Ok(Some(Found::nothing())),
     }
 }
 
-/// Finds the headers of all members. A member on which a call fails isn't known any more.
-pub fn find_all<R: Rack>(rack: &mut R, found: &mut [Found; MEMBERS], known: &mut [bool; MEMBERS])
+/// Finds the headers of all members. A member on which a call fails, or that begins as a label, isn't known any more.
+pub fn find_all<R: Rack>(
+    rack: &mut R,
+    found: &mut [Found; MEMBERS],
+    known: &mut [bool; MEMBERS],
+    failed: &mut [bool; MEMBERS],
+)
     requires none { (q : ℕ) → found_at found.old q ≡ no_headers }
     requires known { (q : ℕ) → q < 32 → flag_in known.old q ≡ true }
-    ensures { AreFound R.Rack 32 found.new known.new rack.old rack.new }
+    requires failed { (q : ℕ) → flag_in failed.old q ≡ false }
+    ensures { AreFound R.Rack 32 found.new known.new failed.new rack.old rack.new }
 {
     for member in 0..MEMBERS {
         match find_at(rack, member as u8) {
-            Ok(headers) => found[member] = headers,
-            Err(_) => known[member] = false,
+            Ok(Some(headers)) => found[member] = headers,
+            Ok(None) => known[member] = false,
+            Err(_) => {
+                known[member] = false;
+                failed[member] = true;
+            }
         }
     }
 }

@@ -39,5 +39,5 @@ pub use openings::{openings_give_kept, openings_hold, openings_spare};
 pub use pages::write_part;
 pub use phases::{MEMBERS, commit_once, next_after};
 pub use places::Places;
-pub use stop_racks::StopRack;
+pub use stop_racks::{Opened, StopRack};
 pub use tries::commit_all;

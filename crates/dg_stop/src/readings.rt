@@ -1,5 +1,5 @@
 // What an opening reads of the members.
-ghost use Rattle.std.specs.Prelude.{◌≡◌, ◌<◌, ℕ, false, slice_set, IfErr, IfOk, IsFalse, IsTrue, Some};
+ghost use Rattle.std.specs.Prelude.{◌≡◌, ◌<◌, ℕ, false, true, slice_set, IfErr, IfOk, IsFalse, IsTrue, Some};
 ghost use Rattle.dg_stop.specs.FoundHeaders.{AreFound, no_headers};
 ghost use Rattle.dg_stop.specs.Leads.{IsLead, IsTopOf};
 ghost use Rattle.dg_stop.specs.Readings.{AreSound, AreTables, FoundSome, HasRead, HasTables, LosesFound, ReadsOn};
@@ -33,9 +33,11 @@ pub struct Attached {
 /// What an opening reads of a rack.
 #[derive(Drop)]
 pub struct Reading {
-    /// The headers of the members on which no call failed.
+    /// The headers of the members that are known: no call on them failed, and they don't begin as a label.
     pub found: [Found; MEMBERS],
     pub known: [bool; MEMBERS],
+    /// The members on which a call failed.
+    pub failed: [bool; MEMBERS],
     /// The greatest sequence that was seen.
     pub top: u64,
     /// `None` where no header is committed.
@@ -84,14 +86,21 @@ fn read_by<R: Rack>(
     }
 }
 
-/// Counts a member as one without a header, and as unknown.
-fn forget(found: &mut [Found; MEMBERS], known: &mut [bool; MEMBERS], member: u8)
+/// Counts a member as one on which a call failed: without a header, and unknown.
+fn forget(
+    found: &mut [Found; MEMBERS],
+    known: &mut [bool; MEMBERS],
+    failed: &mut [bool; MEMBERS],
+    member: u8,
+)
     requires { member < 32 }
     ensures found { found.new ≡ slice_set found.old member no_headers }
     ensures known { known.new ≡ slice_set known.old member false }
+    ensures failed { failed.new ≡ slice_set failed.old member true }
 {
     found[member as usize] = Found::nothing();
     known[member as usize] = false;
+    failed[member as usize] = true;
 }
 
 /// Reads the tables of the commit that leads. A member on which a call fails counts as one without a header, and it begins again.
@@ -100,15 +109,16 @@ fn read_tables<R: Rack>(
     rack: &mut R,
     found: &mut [Found; MEMBERS],
     known: &mut [bool; MEMBERS],
+    failed: &mut [bool; MEMBERS],
 ) -> Result<Option<Attached>, NoMemory>
-    requires { (first : R) × AreFound R.Rack 32 found.old known.old first rack.old }
-    ensures on { IfOk result (λ read. ReadsOn R.Rack found.old known.old rack.old found.new known.new rack.new) }
+    requires { (first : R) × AreFound R.Rack 32 found.old known.old failed.old first rack.old }
+    ensures on { IfOk result (λ read. ReadsOn R.Rack found.old known.old failed.old rack.old found.new known.new failed.new rack.new) }
     ensures tables { IfOk result (HasTables R.Rack found.new rack.new) }
 {
     while let Some(lead) = lead_of(found) {
         match read_by(alloc, rack, found, lead)? {
             Ok(attached) => return Ok(Some(attached)),
-            Err(lost) => forget(found, known, lost),
+            Err(lost) => forget(found, known, failed, lost),
         }
     }
     Ok(None)
@@ -120,12 +130,14 @@ pub fn read_rack<R: Rack>(alloc: Global, rack: &mut R) -> Result<Reading, NoMemo
 {
     let mut found = [Found::nothing(); MEMBERS];
     let mut known = [true; MEMBERS];
-    find_all(rack, &mut found, &mut known);
+    let mut failed = [false; MEMBERS];
+    find_all(rack, &mut found, &mut known, &mut failed);
     let top = top_of(&found);
-    let attached = read_tables(alloc, rack, &mut found, &mut known)?;
+    let attached = read_tables(alloc, rack, &mut found, &mut known, &mut failed)?;
     Ok(Reading {
         found,
         known,
+        failed,
         top,
         attached,
     })

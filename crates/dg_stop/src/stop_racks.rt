@@ -1,9 +1,20 @@
 // A rack over a rack that is plain, or keeps two places for each page.
 use crate::attachments::attach;
 use crate::doubles::DoubleRack;
+use crate::phases::MEMBERS;
 use crate::readings::{is_bare, read_rack};
 use dg_io::{Checkpoint, CommitAnswer, Failed, NoMemory, Rack};
 use std::alloc::Global;
+
+/// What an opening gives.
+#[derive(Drop)]
+pub struct Opened<R: Rack> {
+    pub rack: StopRack<R>,
+    /// The extra bytes of the last commit. A plain rack has none.
+    pub extra: Vec<u8>,
+    /// The members on which a call failed.
+    pub failed: [bool; MEMBERS],
+}
 
 /// A rack over a rack.
 #[derive(Drop)]
@@ -39,23 +50,34 @@ impl<R: Rack> StopRack<R> {
 
 impl<R: Rack + Drop> StopRack<R> {
     ghost use Rattle.std.specs.Prelude.{◌≤◌, ◌<◌, ◌^◌, IfOk, Some};
-    ghost use Rattle.dg_stop.specs.DoubleOpenings.{Opens};
+    ghost use Rattle.dg_stop.specs.DoubleOpenings.{AreFailed, Opens};
     ghost use Rattle.dg_stop.specs.Doubles.{nothing_kept};
+    ghost use Rattle.dg_stop.specs.StopCalls.{behind};
     ghost use Rattle.dg_stop.specs.StopRacks.{IsNew, stop_keeps};
 
     /// Opens a rack: a plain one, with no extra bytes, where no member has a header, else a double one of the members that the last commit
-    /// attaches, with its extra bytes. A member on which a call fails counts as one without a header. On a member that has only a prepared header
-    /// the committed one is written; where that fails the member stands no more.
-    pub fn open(alloc: Global, rack: R) -> Result<(StopRack<R>, Vec<u8>), NoMemory>
-        ensures { IfOk result (λ opened. Opens R.Rack rack opened.0 opened.1.items) }
+    /// attaches, with its extra bytes. A member on which a call fails, or that begins as the label of a plain array, counts as one without a
+    /// header. On a member that has only a prepared header the committed one is written; where that fails the member stands no more.
+    pub fn open(alloc: Global, rack: R) -> Result<Opened<R>, NoMemory>
+        ensures opens { IfOk result (λ opened. Opens R.Rack rack opened.rack opened.extra.items) }
+        ensures failed { IfOk result (λ opened. AreFailed R.Rack opened.failed rack (behind opened.rack)) }
     {
         let mut behind = rack;
         let reading = read_rack(alloc, &mut behind)?;
         if is_bare(&reading.found) {
-            return Ok((StopRack::Plain(behind), Vec::new(alloc)));
+            return Ok(Opened {
+                rack: StopRack::Plain(behind),
+                extra: Vec::new(alloc),
+                failed: reading.failed,
+            });
         }
         let (memory, extra) = attach(alloc, &mut behind, reading)?;
-        Ok((StopRack::Doubled(DoubleRack::over(behind, memory)), extra))
+        let failed = memory.fell;
+        Ok(Opened {
+            rack: StopRack::Doubled(DoubleRack::over(behind, memory)),
+            extra,
+            failed,
+        })
     }
 
     /// A blank double rack of so many members, each with memory for a member of so many bytes, and room for so many extra bytes. It takes its

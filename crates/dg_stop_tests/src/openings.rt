@@ -1,8 +1,8 @@
 // Openings of racks in memory, whose members are made by hand.
 ghost use Rattle.std.specs.Prelude.{◌+◌, ◌≤◌, length};
 
-use dg_io::{Failed, MemRack, NoMemory, Rack};
-use dg_stop::{Header, StopRack, fill_header};
+use dg_io::{Checkpoint, Failed, MemRack, NoMemory, Rack};
+use dg_stop::{Header, Opened, StopRack, fill_header};
 use std::alloc::Global;
 use std::test::Fail;
 
@@ -51,6 +51,26 @@ fn put<R: Rack>(rack: &mut R, first: bool, second: bool) -> Result<(), Failed> {
     rack.write(1, 0, &two)
 }
 
+/// How a member begins that was never saved by itself.
+const BLANK: [u8; 8] = [0; 8];
+
+/// A committed member that begins with these bytes.
+fn begun(member: u8, begins: &[u8; 8]) -> [u8; LONG] {
+    let mut all = image(&header(member, true));
+    put_at(&mut all, 0, begins);
+    all
+}
+
+/// Makes two committed members that begin so.
+fn put_begun<R: Rack>(rack: &mut R, first: &[u8; 8], second: &[u8; 8]) -> Result<(), Failed> {
+    let one = begun(0, first);
+    let two = begun(1, second);
+    rack.blank(0, LONG as u64)?;
+    rack.write(0, 0, &one)?;
+    rack.blank(1, LONG as u64)?;
+    rack.write(1, 0, &two)
+}
+
 /// The first five bytes of a member that stands.
 fn says<R: Rack>(rack: &mut R, member: u8) -> Option<[u8; 5]> {
     let Ok(Some(length)) = rack.attach(member) else {
@@ -81,21 +101,92 @@ const WHOLE: Opening = Opening {
 };
 
 fn open<R: Rack + Drop>(alloc: Global, rack: R) -> Result<Opening, NoMemory> {
-    let (mut opened, extra) = StopRack::open(alloc, rack)?;
+    let Opened {
+        mut rack,
+        extra,
+        ..
+    } = StopRack::open(alloc, rack)?;
     Ok(Opening {
         extra: extra.len(),
-        first: says(&mut opened, 0),
-        second: says(&mut opened, 1),
+        first: says(&mut rack, 0),
+        second: says(&mut rack, 1),
     })
+}
+
+/// Whether an opening marks each of two members as one on which a call failed.
+fn marks<R: Rack + Drop>(alloc: Global, rack: R) -> Result<(bool, bool), NoMemory> {
+    let opened = StopRack::open(alloc, rack)?;
+    Ok((opened.failed[0], opened.failed[1]))
 }
 
 #[test]
 fn a_rack_without_headers_is_plain(rt: HostRuntime) -> Result<(), Fail> {
     let alloc = rt.alloc();
     let rack = MemRack::new(alloc, 2, 8, Vec::new(alloc))?;
-    let (opened, extra) = StopRack::open(alloc, rack)?;
-    assert!(rt; matches!(opened, StopRack::Plain(_)));
-    assert!(rt; extra.is_empty());
+    let opened = StopRack::open(alloc, rack)?;
+    assert!(rt; matches!(opened.rack, StopRack::Plain(_)));
+    assert!(rt; opened.extra.is_empty());
+    Ok(())
+}
+
+// The calls that make the members come first, and then one that looks for each member, or one more that reads its headers.
+#[test]
+fn a_member_on_which_a_call_failed_is_marked(rt: HostRuntime) -> Result<(), Fail> {
+    let alloc = rt.alloc();
+    let bare = MemRack::new(alloc, 2, 8, Vec::from_slice(alloc, &[0])?)?;
+    assert_eq!(rt; marks(alloc, bare)?, (true, false));
+    let mut rack = MemRack::new(alloc, 2, LONG as u64, Vec::from_slice(alloc, &[7])?)?;
+    put(&mut rack, true, false)?;
+    assert_eq!(rt; marks(alloc, &mut rack)?, (false, true));
+    assert_eq!(rt; marks(alloc, &mut rack)?, (false, false));
+    Ok(())
+}
+
+/// What an opening of two members that begin so gives, if it is double. No call on it fails.
+fn open_begun(
+    alloc: Global,
+    first: &[u8; 8],
+    second: &[u8; 8],
+) -> Result<(Option<Opening>, bool), Fail> {
+    let mut below = MemRack::new(alloc, 2, LONG as u64, Vec::new(alloc))?;
+    put_begun(&mut below, first, second)?;
+    let Opened {
+        mut rack,
+        extra,
+        failed,
+    } = StopRack::open(alloc, below)?;
+    let is_quiet = failed.iter().all(|mark| !*mark);
+    if rack.room().is_none() {
+        return Ok((None, is_quiet));
+    }
+    let opening = Opening {
+        extra: extra.len(),
+        first: says(&mut rack, 0),
+        second: says(&mut rack, 1),
+    };
+    Ok((Some(opening), is_quiet))
+}
+
+// A committed header stands on the second page of each. It counts where the member doesn't begin as the label of a plain array.
+#[test]
+fn a_member_that_begins_as_a_label_has_no_header(rt: HostRuntime) -> Result<(), Fail> {
+    let first_alone = Opening {
+        second: None,
+        ..WHOLE
+    };
+    let second_alone = Opening {
+        first: None,
+        ..WHOLE
+    };
+    for (first, second, want) in [
+        (BLANK, BLANK, Some(WHOLE)),
+        (BLANK, *b"DGRAID-1", Some(first_alone)),
+        (*b"DGRAID-2", BLANK, Some(second_alone)),
+        (*b"DGRAID-1", *b"DGRAID-2", None),
+        (*b"DGRAID-3", *b"DGRAID-\0", Some(WHOLE)),
+    ] {
+        assert_eq!(rt; open_begun(rt.alloc(), &first, &second)?, (want, true));
+    }
     Ok(())
 }
 

@@ -48,10 +48,13 @@ fn is_of(page: &[u8; 512], member: u8) -> bool {
         && page[40..].iter().all(|byte| *byte == 0)
 }
 
-// The header in one of the two places.
+// The header in one of the two places. A member that begins as the label of a plain array has none.
 fn header(all: &[u8; BEHIND], place: u64, member: u8) -> Option<Found>
     requires { place < 2 }
 {
+    if all.starts_with(b"DGRAID-1") || all.starts_with(b"DGRAID-2") {
+        return None;
+    }
     let at = place as usize * 512;
     let mut page = [0; 512];
     page.copy_from_slice(&all[at..at + 512]);

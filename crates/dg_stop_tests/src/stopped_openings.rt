@@ -14,8 +14,8 @@ fn put_member<R: Rack>(rack: &mut R, member: u8, bytes: &[u8; BEHIND]) -> bool {
 
 // Opens a rack. Whether it is a double one.
 fn opens<R: Rack + Drop>(alloc: Global, rack: R) -> Result<bool, NoMemory> {
-    let (rack, _) = StopRack::open(alloc, rack)?;
-    Ok(rack.room().is_some())
+    let opened = StopRack::open(alloc, rack)?;
+    Ok(opened.rack.room().is_some())
 }
 
 // Opens both members, where all calls of the opening from one on fail, and tells whether they are then reopened as before.

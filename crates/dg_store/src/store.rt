@@ -10,6 +10,7 @@ ghost use Rattle.dg_model.specs.States.{IsLeastLost, has_lost};
 ghost use Rattle.dg_model.specs.Tables.{Table, IsTable, count_on, sites_in, used_in, without_site};
 ghost use Rattle.dg_pair.specs.Boundaries.{IsWell, completed, number_of, members_of as boundary_members, raised, unfilled};
 ghost use Rattle.dg_pair.specs.Calls.{KeepsBeside, copied, replaced};
+ghost use Rattle.dg_pair.specs.Kept.{BlanksBy};
 ghost use Rattle.dg_store.specs.Answers.{ChangesAt, HasAllSlots, HasFreeSlot, HasNextSlot, IsAllLost, IsBlankStore, IsFull, IsPlaced, IsStored, IsUnchanged, SameWritten, reaped};
 ghost use Rattle.dg_store.specs.Leaves.{BytesChange, CallsAtMost, CallsThoseIn, ExtendsThoseIn, FaultRose, HasCalled, HasWritten, IsCallOrBlankBelow, IsCallOrExtendBelow, KeepsOut, Leaves};
 ghost use Rattle.dg_store.specs.Leaves.{NoFault, OnlyBytesOf, OnlyFaultsOf, PutsOut, Stays, StaysBy};
@@ -344,6 +345,7 @@ impl<R: Rack> Store<R> {
         requires size { length_of 1 (shape_of self.old) ≤ size }
         ensures sound { IsSound R.Rack self.new }
         ensures stays { StaysBy R.Rack IsCallOrBlankBelow self.old self.new }
+        ensures keeps { BlanksBy R.Rack (2 * boundary + side) result (rack_of self.old) (rack_of self.new) }
         ensures faulty { PutsOut R.Rack self.old self.new }
         ensures table { table_of self.new ≡ table_of self.old }
         ensures lost { (result ≡ ReplaceAnswer.Lost) ↔ (is_lost (members_of self.old) boundary ≡ true) }

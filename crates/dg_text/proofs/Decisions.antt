@@ -1,5 +1,5 @@
 -- Every line has a reading: each test of a line is decided by a search that ends.
-use Rattle.std.proofs.Common.{◌≡◌, ◌≢◌, ◌<◌, ◌≤◌, ◌*◌, ◌^◌, ◌⊎◌, inl, inr, Bool, true, false, ℕ, zero, suc, List, [], ◌∷◌, length, take, drop, refl, sym, ◌∙◌, ap, subst, arith}
+use Rattle.std.proofs.Common.{◌≡◌, ◌≢◌, ◌<◌, ◌≤◌, ◌*◌, ◌^◌, ◌⊎◌, inl, inr, Bool, true, false, ℕ, zero, suc, List, [], ◌∷◌, length, map, take, drop, refl, sym, ◌∙◌, ap, subst, arith}
 use Rattle.std.specs.Prelude.{All, Contains, IsTrue, Option, Some, None, Result, Ok, Err}
 use Rattle.std.specs.Fmt.{decimal}
 use Rattle.std.proofs.lemmas.Bool.{cases_lt}
@@ -11,16 +11,17 @@ use Rattle.dg_text.specs.declared.lines.BadLine.{BadLine}
 use Rattle.dg_text.specs.declared.lines.BadLine.TheVariants.{Word, Order, Form, Number, Limits, Hex, Path}
 use Rattle.dg_text.specs.Lines.{AreBytes, block_bytes, hex_word, path_word}
 use Rattle.ufs_model.specs.Paths.{is_path}
-use Rattle.dg_text.specs.Refusals.{Begins, IsHexWord, IsNumberWord, IsOutOfOrder, IsPathWord, Reads, count_of, numbers_of, tail_of, word_of, words}
+use Rattle.dg_text.specs.Refusals.{AreWithinLimits, Begins, IsHexWord, IsNumberWord, IsOutOfOrder, IsPathWord, Reads, count_of, makes_array, numbers_of, tail_of, word_of, words}
 use Rattle.dg_text.specs.declared.kinds.EventKind.{EventKind}
-use Rattle.dg_text.specs.declared.kinds.EventKind.TheVariants.{Array}
+use Rattle.dg_text.specs.declared.kinds.EventKind.TheVariants.{Array, Safe}
 use Rattle.dg_text.specs.declared.kinds.Tail.{Tail}
 use Rattle.dg_text.specs.declared.kinds.Tail.TheVariants.{Nothing, Bytes, Path as PathTail}
-use Rattle.dg_text.proofs.EventWords.{AreFiveNumbers, AreShapeWords, IsRight, array_numbers, line_spelled}
-use Rattle.dg_text.proofs.KindWords.{kind_for, kind_for_is, kind_same}
+use Rattle.dg_text.proofs.EventWords.{IsRight, all_numbers, line_spelled}
+use Rattle.dg_text.proofs.KindWords.{kind_for, kind_for_is}
 use Rattle.dg_text.proofs.Lengths.{path_short}
 use Rattle.dg_text.proofs.LineWords.{words_some}
-use Rattle.dg_text.proofs.Reasons.{IsFormed, by_word, by_order, by_form, by_number, by_limits, by_hex, by_path}
+use Rattle.dg_text.proofs.Numbers.{HasNumbers, IsSmall, numbers_same}
+use Rattle.dg_text.proofs.Reasons.{IsFormed, no_limits, by_word, by_order, by_form, by_number, by_limits, by_hex, by_path}
 
 -- a fact, or that it doesn't hold
 abbrev pub Decided : Type 0 → Type 0
@@ -162,16 +163,9 @@ wrong_form later count r from is =
 
 -- ---- events
 
-not_so : (P : Type 0) → Decided P → Decided (P → ⊥)
-not_so P (inl holds) = inr (λ fails. fails holds)
-not_so P (inr fails) = inl fails
-
-pub is_kind : (one other : EventKind) → Decided (one ≡ other)
-is_kind one other = same_fact (word_of one ≡ word_of other) (one ≡ other) (kind_same one other) (ap word_of) (same_list (word_of one) (word_of other))
-
 out_of_order : (shape : Option Shape) (kind : EventKind) → Decided (IsOutOfOrder shape kind)
-out_of_order None kind = not_so (kind ≡ Array) (is_kind kind Array)
-out_of_order (Some shape) kind = is_kind kind Array
+out_of_order None kind = same_flag (makes_array kind) false
+out_of_order (Some shape) kind = same_flag (makes_array kind) true
 
 begins_with : (line first : List ℕ) (later : List (List ℕ)) → words line ≡ first ∷ later → Decided (first ≡ word_of (kind_for first)) → Decided (Begins line)
 begins_with line first later split (inl is) = inl (record { kind = kind_for first; later = later; split = split ∙ ap (λ (w : List ℕ). w ∷ later) is })
@@ -217,6 +211,11 @@ keeps_limits l n b k m =
     (λ h. (h.block, ((h.least_blocks, h.most_blocks), ((h.least_boundaries, h.most_boundaries), ((h.least_slots, h.most_slots), ((h.room, h.sites), (h.least_places, h.most_places)))))))
     (both _ _ (is_block l) (both _ _ blocks (both _ _ boundaries (both _ _ slots (both _ _ sites places)))))
 
+within_limits : (kind : EventKind) (ns : List ℕ) → Decided (AreWithinLimits kind ns)
+within_limits Array (l ∷ n ∷ b ∷ k ∷ m ∷ []) = keeps_limits l n b k m
+within_limits Safe (l ∷ n ∷ b ∷ k ∷ m ∷ []) = keeps_limits l n b k m
+within_limits kind ns = inl tt
+
 -- ---- the reading
 
 abbrev HasReading : Option Shape → List ℕ → Type 0
@@ -232,7 +231,10 @@ module _ (shape : Option Shape) (line : List ℕ) (b : Begins line) where
   abbrev ArePaths : Type 0
   ArePaths = All IsPathWord (drop (numbers_of b.kind) b.later)
 
-  pub right_of : IsFormed shape line b → AreNumbers → (b.kind ≡ Array → AreShapeWords b.later) → (tail_of b.kind ≡ Bytes → AreHex) → (tail_of b.kind ≡ PathTail → ArePaths) → IsRight shape b.kind b.later
+  abbrev AreLimited : Type 0
+  AreLimited = (ns : List ℕ) → All IsSmall ns → b.later ≡ map decimal ns → AreWithinLimits b.kind ns
+
+  right_of : IsFormed shape line b → AreNumbers → AreLimited → (tail_of b.kind ≡ Bytes → AreHex) → (tail_of b.kind ≡ PathTail → ArePaths) → IsRight shape b.kind b.later
   right_of form numbers limits hex path = record {
     order = form.order;
     count = form.count;
@@ -248,34 +250,32 @@ module _ (shape : Option Shape) (line : List ℕ) (b : Begins line) where
       let found = line_spelled shape line b right in
       (Ok found.0, (found.1, found.2))
 
-  read_array : IsFormed shape line b → AreNumbers → b.kind ≡ Array → (five : AreFiveNumbers b.later) → Decided (KeepsLimits five.l five.n five.b five.k five.m) → HasReading shape line
-  read_array form numbers array five (inl keeps) =
-      let s : Shape = record { l = five.l; n = five.n; b = five.b; k = five.k; m = five.m } in
-      read_right (right_of form numbers (λ is. (s, keeps, five.spelled)) (λ is. absurd (cc (is, ap tail_of array))) (λ is. absurd (cc (is, ap tail_of array))))
-  read_array form numbers array five (inr broken) =
-      (Err Limits, by_limits shape line b form numbers array (record { l = five.l; n = five.n; b = five.b; k = five.k; m = five.m; small = five.small; spelled = five.spelled; broken = broken }))
+  read_limits : IsFormed shape line b → AreNumbers → tail_of b.kind ≡ Nothing → (ns : HasNumbers b.later) → Decided (AreWithinLimits b.kind ns.0) → HasReading shape line
+  read_limits form numbers tail ns (inl within) =
+      read_right (right_of form numbers (λ ms low is. subst (AreWithinLimits b.kind) (numbers_same ns.0 ms ns.1 low (sym ns.2 ∙ is)) within)
+      (λ is. absurd (cc (tail, is))) (λ is. absurd (cc (tail, is))))
+  read_limits form numbers tail ns (inr broken) =
+      (Err Limits, by_limits shape line b form numbers (record { numbers = ns.0; small = ns.1; spelled = ns.2; broken = broken }))
 
-  read_hex : IsFormed shape line b → AreNumbers → (b.kind ≡ Array → ⊥) → tail_of b.kind ≡ Bytes → Decided AreHex → HasReading shape line
-  read_hex form numbers other tail (inl hex) = read_right (right_of form numbers (λ is. absurd (other is)) (λ is. hex) (λ is. absurd (cc (tail, is))))
-  read_hex form numbers other tail (inr wrong) = (Err Hex, by_hex shape line b form numbers tail wrong)
+  read_hex : IsFormed shape line b → AreNumbers → tail_of b.kind ≡ Bytes → Decided AreHex → HasReading shape line
+  read_hex form numbers tail (inl hex) =
+      read_right (right_of form numbers (λ ns low is. no_limits b.kind ns (λ nothing. cc (tail, nothing))) (λ is. hex) (λ is. absurd (cc (tail, is))))
+  read_hex form numbers tail (inr wrong) = (Err Hex, by_hex shape line b form numbers tail wrong)
 
-  read_path : IsFormed shape line b → AreNumbers → (b.kind ≡ Array → ⊥) → tail_of b.kind ≡ PathTail → Decided ArePaths → HasReading shape line
-  read_path form numbers other tail (inl path) = read_right (right_of form numbers (λ is. absurd (other is)) (λ is. absurd (cc (tail, is))) (λ is. path))
-  read_path form numbers other tail (inr wrong) = (Err Path, by_path shape line b form numbers tail wrong)
+  read_path : IsFormed shape line b → AreNumbers → tail_of b.kind ≡ PathTail → Decided ArePaths → HasReading shape line
+  read_path form numbers tail (inl path) =
+      read_right (right_of form numbers (λ ns low is. no_limits b.kind ns (λ nothing. cc (tail, nothing))) (λ is. absurd (cc (tail, is))) (λ is. path))
+  read_path form numbers tail (inr wrong) = (Err Path, by_path shape line b form numbers tail wrong)
 
-  read_tail : IsFormed shape line b → AreNumbers → (b.kind ≡ Array → ⊥) → (tail : Tail) → tail_of b.kind ≡ tail → HasReading shape line
-  read_tail form numbers other Nothing is = read_right (right_of form numbers (λ array. absurd (other array)) (λ bytes. absurd (cc (is, bytes))) (λ path. absurd (cc (is, path))))
-  read_tail form numbers other Bytes is = read_hex form numbers other is (each_of (IsHexWord (block_bytes shape)) (hex_word_of (block_bytes shape)) (drop (numbers_of b.kind) b.later))
-  read_tail form numbers other PathTail is = read_path form numbers other is (each_of IsPathWord path_word_of (drop (numbers_of b.kind) b.later))
-
-  read_kind : IsFormed shape line b → AreNumbers → Decided (b.kind ≡ Array) → HasReading shape line
-  read_kind form numbers (inl array) =
-      let five = array_numbers b.kind b.later array form.count numbers in
-      read_array form numbers array five (keeps_limits five.l five.n five.b five.k five.m)
-  read_kind form numbers (inr other) = read_tail form numbers other (tail_of b.kind) refl
+  read_tail : IsFormed shape line b → AreNumbers → (tail : Tail) → tail_of b.kind ≡ tail → HasReading shape line
+  read_tail form numbers Nothing is =
+      let ns = all_numbers b.kind b.later is form.count numbers in
+      read_limits form numbers is ns (within_limits b.kind ns.0)
+  read_tail form numbers Bytes is = read_hex form numbers is (each_of (IsHexWord (block_bytes shape)) (hex_word_of (block_bytes shape)) (drop (numbers_of b.kind) b.later))
+  read_tail form numbers PathTail is = read_path form numbers is (each_of IsPathWord path_word_of (drop (numbers_of b.kind) b.later))
 
   read_numbers : IsFormed shape line b → Decided AreNumbers → HasReading shape line
-  read_numbers form (inl numbers) = read_kind form numbers (is_kind b.kind Array)
+  read_numbers form (inl numbers) = read_tail form numbers (tail_of b.kind) refl
   read_numbers form (inr wrong) = (Err Number, by_number shape line b form wrong)
 
   read_filled : (IsOutOfOrder shape b.kind → ⊥) → length b.later ≡ count_of b.kind → Decided (Contains b.later []) → HasReading shape line

@@ -1,32 +1,32 @@
 -- The words of an event's line, and the event of a line whose words are right.
-use Rattle.std.proofs.Common.{◌≡◌, ◌<◌, ◌≤◌, ◌^◌, true, ℕ, List, [], ◌∷◌, ◌++◌, length, take, drop, refl, sym, ◌∙◌, ap, subst, arith}
-use Rattle.std.specs.Prelude.{All, Contains, Option, Some, None, codes}
+use Rattle.std.proofs.Common.{◌≡◌, ◌<◌, ◌≤◌, ◌+◌, ◌^◌, true, false, ℕ, List, [], ◌∷◌, ◌++◌, length, map, take, drop, refl, sym, ◌∙◌, ap, subst, arith}
+use Rattle.std.specs.Prelude.{All, Contains, Option, Some, None}
 use Rattle.std.specs.Fmt.{decimal}
 use Rattle.std.proofs.lemmas.Fmt.{decimal_nonempty}
-use Rattle.std.proofs.lemmas.List.{take_all}
+use Rattle.std.proofs.lemmas.List.{length-map, take_all}
 use Rattle.std.proofs.lemmas.List.Elements.{All-nil, All-cons, All-head, All-tail, All-contains}
-use Rattle.dg_model.specs.Shapes.{IsShape}
 use Rattle.dg_model.specs.declared.shapes.Shape.{Shape}
 use Rattle.dg_model.specs.declared.events.Event.{Event}
-use Rattle.dg_model.specs.declared.events.Event.TheVariants.{Array, Write, Read, Fail, Replace, Rebuild, Settle, Tend, Diffuse, Who, Pending, Cat, Ls, Tree, Home, Save, Audit, Regroup, LostFiles, DropDisk, MendDisk}
+use Rattle.dg_model.specs.declared.events.Event.TheVariants.{Array, Safe, Write, Read, Fail, Replace, Rebuild, Settle, Tend, Diffuse, Who, Pending, Cat, Ls, Tree, Home, Save, Audit, Regroup, LostFiles, DropDisk, MendDisk}
 use Rattle.ufs_model.specs.Paths.{is_path}
-use Rattle.dg_text.specs.Lines.{AreBytes, block_bytes, hex_word, path_word, shape_words, spelling, IsInPlace}
-use Rattle.dg_text.specs.Refusals.{Begins, IsHexWord, IsNumberWord, IsOutOfOrder, IsPathWord, count_of, numbers_of, tail_of, words, word_of}
+use Rattle.dg_text.specs.Lines.{AreBytes, block_bytes, hex_word, path_word, spelling, IsInPlace}
+use Rattle.dg_text.specs.Refusals.{Begins, IsHexWord, IsNumberWord, IsOutOfOrder, IsPathWord, AreWithinLimits, count_of, makes_array, numbers_of, tail_count, tail_of, words, word_of}
 use Rattle.dg_text.specs.Texts.{IsTextOf, event_kind}
 use Rattle.dg_text.specs.declared.kinds.EventKind.{EventKind}
-use Rattle.dg_text.specs.declared.kinds.EventKind.TheVariants.{Array as KindArray, Write as KindWrite, Read as KindRead, Fail as KindFail, Replace as KindReplace, Rebuild as KindRebuild, Settle as KindSettle, Tend as KindTend, Diffuse as KindDiffuse, Who as KindWho, Pending as KindPending, Cat as KindCat, Ls as KindLs, Tree as KindTree, Home as KindHome, Save as KindSave, Audit as KindAudit, Regroup as KindRegroup, LostFiles as KindLostFiles, Drop as KindDrop, Mend as KindMend}
+use Rattle.dg_text.specs.declared.kinds.EventKind.TheVariants.{Array as KindArray, Safe as KindSafe, Write as KindWrite, Read as KindRead, Fail as KindFail, Replace as KindReplace, Rebuild as KindRebuild, Settle as KindSettle, Tend as KindTend, Diffuse as KindDiffuse, Who as KindWho, Pending as KindPending, Cat as KindCat, Ls as KindLs, Tree as KindTree, Home as KindHome, Save as KindSave, Audit as KindAudit, Regroup as KindRegroup, LostFiles as KindLostFiles, Drop as KindDrop, Mend as KindMend}
+use Rattle.dg_text.specs.declared.kinds.Tail.{Tail}
 use Rattle.dg_text.specs.declared.kinds.Tail.TheVariants.{Nothing, Bytes, Path as PathTail}
 use Rattle.dg_text.proofs.Cuts.{Lacks, Lacks-from_above}
 use Rattle.dg_text.proofs.HexWords.{hex_word_nonempty, hex_word_high}
 use Rattle.dg_text.proofs.KindWords.{begins_once, kind_same, word_lacks}
-use Rattle.dg_text.proofs.Lengths.{block_small}
-use Rattle.dg_text.proofs.LineWords.{joined, joined_words, words_cut, words_same, words_whole}
-use Rattle.dg_text.proofs.Numbers.{decimal_lacks}
+use Rattle.dg_text.proofs.LineWords.{joined, joined_words, words_cut, words_joined, words_same, words_whole}
+use Rattle.dg_text.proofs.Numbers.{HasNumbers, IsSmall, decimal_lacks, has_numbers, number_words, numbers_lack, numbers_same, shape_numbers, shape_small}
 use Rattle.dg_text.proofs.PathWords.{path_none, path_word_high}
 
 -- the words behind the first
 abbrev pub later_of : Event → List (List ℕ)
-later_of (Array s) = decimal s.l ∷ decimal s.n ∷ decimal s.b ∷ decimal s.k ∷ decimal s.m ∷ []
+later_of (Array s) = map decimal (shape_numbers s)
+later_of (Safe s) = map decimal (shape_numbers s)
 later_of (Write b bytes) = decimal b ∷ hex_word bytes ∷ []
 later_of (Read b) = decimal b ∷ []
 later_of (Fail s j) = decimal s ∷ decimal j ∷ []
@@ -68,24 +68,15 @@ split_two kind v w first second =
     words_cut (word_of kind) (v ++ 32 ∷ w) (word_lacks kind)
     ∙ ap (λ (l : List (List ℕ)). word_of kind ∷ l) (words_cut v w first ∙ ap (λ (l : List (List ℕ)). v ∷ l) (words_whole w second))
 
--- five words that have no spaces
-five_words : (a b c d e : List ℕ) → Lacks 32 a → Lacks 32 b → Lacks 32 c → Lacks 32 d → Lacks 32 e
-    → words (a ++ 32 ∷ (b ++ 32 ∷ (c ++ 32 ∷ (d ++ 32 ∷ e)))) ≡ a ∷ b ∷ c ∷ d ∷ e ∷ []
-five_words a b c d e la lb lc ld le =
-    words_cut a (b ++ 32 ∷ (c ++ 32 ∷ (d ++ 32 ∷ e))) la ∙ ap (λ (l : List (List ℕ)). a ∷ l)
-    (words_cut b (c ++ 32 ∷ (d ++ 32 ∷ e)) lb ∙ ap (λ (l : List (List ℕ)). b ∷ l)
-    (words_cut c (d ++ 32 ∷ e) lc ∙ ap (λ (l : List (List ℕ)). c ∷ l)
-    (words_cut d e ld ∙ ap (λ (l : List (List ℕ)). d ∷ l) (words_whole e le))))
-
-split_array : (s : Shape) → IsShape s → words (spelling (Array s)) ≡ word_of KindArray ∷ later_of (Array s)
-split_array s h =
-    words_cut (codes "array") (shape_words s) (word_lacks KindArray)
-    ∙ ap (λ (l : List (List ℕ)). codes "array" ∷ l)
-    (five_words (decimal s.l) (decimal s.n) (decimal s.b) (decimal s.k) (decimal s.m) (number_lacks s.l (block_small s.l h.block))
-    (number_lacks s.n (omega arith)) (number_lacks s.b (omega arith)) (number_lacks s.k (omega arith)) (number_lacks s.m (omega arith)))
+split_numbers : (kind : EventKind) (n : ℕ) (ns : List ℕ) → All IsSmall (n ∷ ns)
+    → words (word_of kind ++ 32 ∷ joined (map decimal (n ∷ ns))) ≡ word_of kind ∷ map decimal (n ∷ ns)
+split_numbers kind n ns small =
+    words_cut (word_of kind) (joined (map decimal (n ∷ ns))) (word_lacks kind)
+    ∙ ap (λ (l : List (List ℕ)). word_of kind ∷ l) (words_joined (decimal n) (map decimal ns) (numbers_lack 32 (n ∷ ns) (omega arith) small))
 
 pub split_event : (shape : Option Shape) (event : Event) → IsInPlace shape event → words (spelling event) ≡ word_of (event_kind event) ∷ later_of event
-split_event None (Array s) h = split_array s h
+split_event None (Array s) h = split_numbers KindArray s.l (s.n ∷ s.b ∷ s.k ∷ s.m ∷ []) (shape_small s h)
+split_event None (Safe s) h = split_numbers KindSafe s.l (s.n ∷ s.b ∷ s.k ∷ s.m ∷ []) (shape_small s h)
 split_event (Some shape) (Write b bytes) h = split_two KindWrite (decimal b) (hex_word bytes) (number_lacks b h.0) (hex_lacks bytes h.2)
 split_event (Some shape) (Read b) h = split_one KindRead (decimal b) (number_lacks b h)
 split_event (Some shape) (Tend n) h = split_one KindTend (decimal n) (number_lacks n h)
@@ -110,17 +101,13 @@ split_event shape event h = absurd h
 
 -- ---- what is right about them
 
--- the words of an array that keeps the limits
-abbrev pub AreShapeWords : List (List ℕ) → Type 0
-AreShapeWords later = (s : Shape) × IsShape s × (later ≡ later_of (Array s))
-
 -- the words of an event of this kind in its place
 pub record IsRight (shape : Option Shape) (kind : EventKind) (later : List (List ℕ)) : Type 0 where
   pub order : IsOutOfOrder shape kind → ⊥
   pub count : length later ≡ count_of kind
   pub filled : Contains later [] → ⊥
   pub numbers : All IsNumberWord (take (numbers_of kind) later)
-  pub limits : kind ≡ KindArray → AreShapeWords later
+  pub limits : (ns : List ℕ) → All IsSmall ns → later ≡ map decimal ns → AreWithinLimits kind ns
   pub hex : tail_of kind ≡ Bytes → All (IsHexWord (block_bytes shape)) (drop (numbers_of kind) later)
   pub path : tail_of kind ≡ PathTail → All IsPathWord (drop (numbers_of kind) later)
 
@@ -163,28 +150,32 @@ some_one w h = All-cons IsSome w [] h no_words
 some_two : (v w : List ℕ) → 0 < length v → 0 < length w → All IsSome (v ∷ w ∷ [])
 some_two v w g h = All-cons IsSome v (w ∷ []) g (some_one w h)
 
-five_all : (P : List ℕ → Type 0) (a b c d e : List ℕ) → P a → P b → P c → P d → P e → All P (a ∷ b ∷ c ∷ d ∷ e ∷ [])
-five_all P a b c d e pa pb pc pd pe =
-    All-cons P a (b ∷ c ∷ d ∷ e ∷ []) pa (All-cons P b (c ∷ d ∷ e ∷ []) pb (All-cons P c (d ∷ e ∷ []) pc (All-cons P d (e ∷ []) pd (All-cons P e [] pe (All-nil P)))))
+all_some : (ns : List ℕ) → All IsSmall ns → All IsSome (map decimal ns)
+all_some [] small = no_words
+all_some (n ∷ ns) small =
+    All-cons IsSome (decimal n) (map decimal ns) (number_some n (All-head IsSmall n ns small)) (all_some ns (All-tail IsSmall n ns small))
 
-right_array : (s : Shape) → IsShape s → IsRight None KindArray (later_of (Array s))
-right_array s h =
-    let l = block_small s.l h.block in
-    let n : s.n < 2 ^ 32 = omega arith in
-    let b : s.b < 2 ^ 32 = omega arith in
-    let k : s.k < 2 ^ 32 = omega arith in
-    let m : s.m < 2 ^ 32 = omega arith in
+-- of an event that makes an array
+right_first : (kind : EventKind) (ns : List ℕ) → makes_array kind ≡ true → tail_of kind ≡ Nothing → length ns ≡ numbers_of kind → length ns ≡ count_of kind → All IsSmall ns
+    → AreWithinLimits kind ns → IsRight None kind (map decimal ns)
+right_first kind ns first tail numbers count small within =
+    let words = number_words ns small in
+    let whole : take (numbers_of kind) (map decimal ns) ≡ map decimal ns = take_all (numbers_of kind) (map decimal ns) (omega (arith, length-map ns decimal, numbers)) in
     record {
-      order = λ other. other refl;
-      count = refl;
-      filled = none_empty (later_of (Array s)) (five_all IsSome (decimal s.l) (decimal s.n) (decimal s.b) (decimal s.k) (decimal s.m)
-          (number_some s.l l) (number_some s.n n) (number_some s.b b) (number_some s.k k) (number_some s.m m));
-      numbers = five_all IsNumberWord (decimal s.l) (decimal s.n) (decimal s.b) (decimal s.k) (decimal s.m)
-          (small_word s.l l) (small_word s.n n) (small_word s.b b) (small_word s.k k) (small_word s.m m);
-      limits = λ is. (s, h, refl);
-      hex = λ is. absurd (cc is);
-      path = λ is. absurd (cc is);
+      order = λ other. cc (first, other);
+      count = length-map ns decimal ∙ count;
+      filled = none_empty (map decimal ns) (all_some ns small);
+      numbers = subst (All IsNumberWord) (sym whole) words;
+      limits = λ ms low is. subst (AreWithinLimits kind) (numbers_same ns ms small low is) within;
+      hex = λ is. absurd (cc (tail, is));
+      path = λ is. absurd (cc (tail, is));
     }
+
+-- the numbers of no other event have limits
+pub unlimited : (kind : EventKind) (ns : List ℕ) → makes_array kind ≡ false → AreWithinLimits kind ns
+unlimited KindArray ns is = absurd (cc is)
+unlimited KindSafe ns is = absurd (cc is)
+unlimited kind ns is = tt
 
 right_write : (shape : Shape) (b : ℕ) (bytes : List ℕ) → b < 2 ^ 32 → length bytes ≤ shape.l → AreBytes bytes → IsRight (Some shape) KindWrite (later_of (Write b bytes))
 right_write shape b bytes small fits are = record {
@@ -192,74 +183,75 @@ right_write shape b bytes small fits are = record {
   count = refl;
   filled = none_empty (later_of (Write b bytes)) (some_two (decimal b) (hex_word bytes) (number_some b small) (hex_word_nonempty bytes));
   numbers = numbers_one (decimal b) (small_word b small);
-  limits = λ is. absurd (cc is);
+  limits = λ ns small is. tt;
   hex = λ is. All-cons (IsHexWord shape.l) (hex_word bytes) [] (bytes, fits, are, refl) (All-nil (IsHexWord shape.l));
   path = λ is. absurd (cc is);
 }
 
 -- of numbers alone
-right_numbers : (shape : Shape) (kind : EventKind) (later : List (List ℕ)) → (kind ≡ KindArray → ⊥) → tail_of kind ≡ Nothing → length later ≡ count_of kind → All IsSome later
+right_numbers : (shape : Shape) (kind : EventKind) (later : List (List ℕ)) → makes_array kind ≡ false → tail_of kind ≡ Nothing → length later ≡ count_of kind → All IsSome later
     → All IsNumberWord (take (numbers_of kind) later) → IsRight (Some shape) kind later
 right_numbers shape kind later other tail count some numbers = record {
-  order = other;
+  order = λ is. cc (other, is);
   count = count;
   filled = none_empty later some;
   numbers = numbers;
-  limits = λ is. absurd (other is);
+  limits = λ ns small is. unlimited kind ns other;
   hex = λ is. absurd (cc (tail, is));
   path = λ is. absurd (cc (tail, is));
 }
 
 -- of a path
-right_path : (shape : Shape) (kind : EventKind) (path : List ℕ) → (kind ≡ KindArray → ⊥) → tail_of kind ≡ PathTail → numbers_of kind ≡ 0 → count_of kind ≡ 1 → is_path path ≡ true → AreBytes path
+right_path : (shape : Shape) (kind : EventKind) (path : List ℕ) → makes_array kind ≡ false → tail_of kind ≡ PathTail → numbers_of kind ≡ 0 → count_of kind ≡ 1 → is_path path ≡ true → AreBytes path
     → IsRight (Some shape) kind (path_word path ∷ [])
 right_path shape kind path other tail none one is are =
     let P : ℕ → Type 0 = λ n. All IsNumberWord (take n (path_word path ∷ [])) in
     let Q : ℕ → Type 0 = λ n. All IsPathWord (drop n (path_word path ∷ [])) in
     record {
-      order = other;
+      order = λ is. cc (other, is);
       count = sym one;
       filled = none_empty (path_word path ∷ []) (some_one (path_word path) (path_some path is));
       numbers = subst P (sym none) (All-nil IsNumberWord);
-      limits = λ array. absurd (other array);
+      limits = λ ns small is. unlimited kind ns other;
       hex = λ bytes. absurd (cc (tail, bytes));
       path = λ same. subst Q (sym none) (All-cons IsPathWord (path_word path) [] (path, is, are, refl) (All-nil IsPathWord));
     }
 
 pub right_event : (shape : Option Shape) (event : Event) → IsInPlace shape event → IsRight shape (event_kind event) (later_of event)
-right_event None (Array s) h = right_array s h
+right_event None (Array s) h = right_first KindArray (shape_numbers s) refl refl refl refl (shape_small s h) h
+right_event None (Safe s) h = right_first KindSafe (shape_numbers s) refl refl refl refl (shape_small s h) h
 right_event (Some shape) (Write b bytes) h = right_write shape b bytes h.0 h.1 h.2
 right_event (Some shape) (Read b) h =
-    right_numbers shape KindRead (decimal b ∷ []) (λ is. cc is) refl refl (some_one (decimal b) (number_some b h)) (numbers_one (decimal b) (small_word b h))
+    right_numbers shape KindRead (decimal b ∷ []) refl refl refl (some_one (decimal b) (number_some b h)) (numbers_one (decimal b) (small_word b h))
 right_event (Some shape) (Tend n) h =
-    right_numbers shape KindTend (decimal n ∷ []) (λ is. cc is) refl refl (some_one (decimal n) (number_some n h)) (numbers_one (decimal n) (small_word n h))
+    right_numbers shape KindTend (decimal n ∷ []) refl refl refl (some_one (decimal n) (number_some n h)) (numbers_one (decimal n) (small_word n h))
 right_event (Some shape) (Who b) h =
-    right_numbers shape KindWho (decimal b ∷ []) (λ is. cc is) refl refl (some_one (decimal b) (number_some b h)) (numbers_one (decimal b) (small_word b h))
+    right_numbers shape KindWho (decimal b ∷ []) refl refl refl (some_one (decimal b) (number_some b h)) (numbers_one (decimal b) (small_word b h))
 right_event (Some shape) (Fail s j) h =
-    right_numbers shape KindFail (decimal s ∷ decimal j ∷ []) (λ is. cc is) refl refl (some_two (decimal s) (decimal j) (number_some s h.0) (number_some j h.1))
+    right_numbers shape KindFail (decimal s ∷ decimal j ∷ []) refl refl refl (some_two (decimal s) (decimal j) (number_some s h.0) (number_some j h.1))
     (numbers_two (decimal s) (decimal j) (small_word s h.0) (small_word j h.1))
 right_event (Some shape) (Replace s j) h =
-    right_numbers shape KindReplace (decimal s ∷ decimal j ∷ []) (λ is. cc is) refl refl (some_two (decimal s) (decimal j) (number_some s h.0) (number_some j h.1))
+    right_numbers shape KindReplace (decimal s ∷ decimal j ∷ []) refl refl refl (some_two (decimal s) (decimal j) (number_some s h.0) (number_some j h.1))
     (numbers_two (decimal s) (decimal j) (small_word s h.0) (small_word j h.1))
 right_event (Some shape) (Rebuild s n) h =
-    right_numbers shape KindRebuild (decimal s ∷ decimal n ∷ []) (λ is. cc is) refl refl (some_two (decimal s) (decimal n) (number_some s h.0) (number_some n h.1))
+    right_numbers shape KindRebuild (decimal s ∷ decimal n ∷ []) refl refl refl (some_two (decimal s) (decimal n) (number_some s h.0) (number_some n h.1))
     (numbers_two (decimal s) (decimal n) (small_word s h.0) (small_word n h.1))
-right_event (Some shape) (Cat path) h = right_path shape KindCat path (λ is. cc is) refl refl refl h.0 h.1
-right_event (Some shape) (Ls path) h = right_path shape KindLs path (λ is. cc is) refl refl refl h.0 h.1
-right_event (Some shape) (Home path) h = right_path shape KindHome path (λ is. cc is) refl refl refl h.0 h.1
-right_event (Some shape) Settle h = right_numbers shape KindSettle [] (λ is. cc is) refl refl no_words (All-nil IsNumberWord)
-right_event (Some shape) Diffuse h = right_numbers shape KindDiffuse [] (λ is. cc is) refl refl no_words (All-nil IsNumberWord)
-right_event (Some shape) Pending h = right_numbers shape KindPending [] (λ is. cc is) refl refl no_words (All-nil IsNumberWord)
-right_event (Some shape) Tree h = right_numbers shape KindTree [] (λ is. cc is) refl refl no_words (All-nil IsNumberWord)
-right_event (Some shape) Save h = right_numbers shape KindSave [] (λ is. cc is) refl refl no_words (All-nil IsNumberWord)
-right_event (Some shape) Audit h = right_numbers shape KindAudit [] (λ is. cc is) refl refl no_words (All-nil IsNumberWord)
-right_event (Some shape) Regroup h = right_numbers shape KindRegroup [] (λ is. cc is) refl refl no_words (All-nil IsNumberWord)
-right_event (Some shape) LostFiles h = right_numbers shape KindLostFiles [] (λ is. cc is) refl refl no_words (All-nil IsNumberWord)
+right_event (Some shape) (Cat path) h = right_path shape KindCat path refl refl refl refl h.0 h.1
+right_event (Some shape) (Ls path) h = right_path shape KindLs path refl refl refl refl h.0 h.1
+right_event (Some shape) (Home path) h = right_path shape KindHome path refl refl refl refl h.0 h.1
+right_event (Some shape) Settle h = right_numbers shape KindSettle [] refl refl refl no_words (All-nil IsNumberWord)
+right_event (Some shape) Diffuse h = right_numbers shape KindDiffuse [] refl refl refl no_words (All-nil IsNumberWord)
+right_event (Some shape) Pending h = right_numbers shape KindPending [] refl refl refl no_words (All-nil IsNumberWord)
+right_event (Some shape) Tree h = right_numbers shape KindTree [] refl refl refl no_words (All-nil IsNumberWord)
+right_event (Some shape) Save h = right_numbers shape KindSave [] refl refl refl no_words (All-nil IsNumberWord)
+right_event (Some shape) Audit h = right_numbers shape KindAudit [] refl refl refl no_words (All-nil IsNumberWord)
+right_event (Some shape) Regroup h = right_numbers shape KindRegroup [] refl refl refl no_words (All-nil IsNumberWord)
+right_event (Some shape) LostFiles h = right_numbers shape KindLostFiles [] refl refl refl no_words (All-nil IsNumberWord)
 right_event (Some shape) (DropDisk s j) h =
-    right_numbers shape KindDrop (decimal s ∷ decimal j ∷ []) (λ is. cc is) refl refl (some_two (decimal s) (decimal j) (number_some s h.0) (number_some j h.1))
+    right_numbers shape KindDrop (decimal s ∷ decimal j ∷ []) refl refl refl (some_two (decimal s) (decimal j) (number_some s h.0) (number_some j h.1))
     (numbers_two (decimal s) (decimal j) (small_word s h.0) (small_word j h.1))
 right_event (Some shape) (MendDisk s j) h =
-    right_numbers shape KindMend (decimal s ∷ decimal j ∷ []) (λ is. cc is) refl refl (some_two (decimal s) (decimal j) (number_some s h.0) (number_some j h.1))
+    right_numbers shape KindMend (decimal s ∷ decimal j ∷ []) refl refl refl (some_two (decimal s) (decimal j) (number_some s h.0) (number_some j h.1))
     (numbers_two (decimal s) (decimal j) (small_word s h.0) (small_word j h.1))
 right_event shape event h = absurd h
 
@@ -279,53 +271,17 @@ two_of (v ∷ later) is =
     let rest = one_of later (omega arith) in
     (v, rest.0, ap (λ (l : List (List ℕ)). v ∷ l) rest.1)
 
--- five numbers
-pub record AreFiveNumbers (later : List (List ℕ)) : Type 0 where
-  pub l : ℕ
-  pub n : ℕ
-  pub b : ℕ
-  pub k : ℕ
-  pub m : ℕ
-  pub small : (l < 2 ^ 32) × (n < 2 ^ 32) × (b < 2 ^ 32) × (k < 2 ^ 32) × (m < 2 ^ 32)
-  pub spelled : later ≡ decimal l ∷ decimal n ∷ decimal b ∷ decimal k ∷ decimal m ∷ []
+-- the words of numbers alone
+pub all_numbers : (kind : EventKind) (later : List (List ℕ)) → tail_of kind ≡ Nothing → length later ≡ count_of kind → All IsNumberWord (take (numbers_of kind) later) → HasNumbers later
+all_numbers kind later tail count numbers =
+    let size : numbers_of kind + tail_count Nothing ≡ length later = ap (λ (t : Tail). numbers_of kind + tail_count t) (sym tail) ∙ sym count in
+    let whole : take (numbers_of kind) later ≡ later = take_all (numbers_of kind) later (omega (arith, size)) in
+    has_numbers later (subst (All IsNumberWord) whole numbers)
 
-two_numbers_of : (later : List (List ℕ)) → length later ≡ 2 → All IsNumberWord later
-    → (k : ℕ) × (m : ℕ) × (k < 2 ^ 32) × (m < 2 ^ 32) × (later ≡ decimal k ∷ decimal m ∷ [])
-two_numbers_of later size all =
-    let ws = two_of later size in
-    let both = subst (All IsNumberWord) ws.2 all in
-    let first = All-head IsNumberWord ws.0 (ws.1 ∷ []) both in
-    let second = All-head IsNumberWord ws.1 [] (All-tail IsNumberWord ws.0 (ws.1 ∷ []) both) in
-    (first.0, second.0, first.1, second.1, ws.2 ∙ (λ i. first.2 i ∷ second.2 i ∷ []))
-
-five_of_list : (later : List (List ℕ)) → length later ≡ 5 → All IsNumberWord later → AreFiveNumbers later
-five_of_list [] size all = absurd (omega arith)
-five_of_list (a ∷ []) size all = absurd (omega arith)
-five_of_list (a ∷ b ∷ []) size all = absurd (omega arith)
-five_of_list (a ∷ b ∷ c ∷ rest) size all =
-    let behind_a = All-tail IsNumberWord a (b ∷ c ∷ rest) all in
-    let behind_b = All-tail IsNumberWord b (c ∷ rest) behind_a in
-    let l = All-head IsNumberWord a (b ∷ c ∷ rest) all in
-    let n = All-head IsNumberWord b (c ∷ rest) behind_a in
-    let h = All-head IsNumberWord c rest behind_b in
-    let last = two_numbers_of rest (omega arith) (All-tail IsNumberWord c rest behind_b) in
-    record {
-      l = l.0;
-      n = n.0;
-      b = h.0;
-      k = last.0;
-      m = last.1;
-      small = (l.1, n.1, h.1, last.2, last.3);
-      spelled = λ i. l.2 i ∷ n.2 i ∷ h.2 i ∷ last.4 i;
-    }
-
--- the numbers of an array
-pub array_numbers : (kind : EventKind) (later : List (List ℕ)) → kind ≡ KindArray → length later ≡ count_of kind → All IsNumberWord (take (numbers_of kind) later) → AreFiveNumbers later
-array_numbers kind later is count numbers =
-    let P : EventKind → Type 0 = λ k. All IsNumberWord (take (numbers_of k) later) in
-    let size : length later ≡ 5 = count ∙ ap count_of is in
-    let whole : take 5 later ≡ later = take_all 5 later (omega arith) in
-    five_of_list later size (subst (All IsNumberWord) whole (subst P is numbers))
+-- five numbers are those of an array
+shape_of : (ns : List ℕ) → length ns ≡ 5 → (s : Shape) × (ns ≡ shape_numbers s)
+shape_of (l ∷ n ∷ b ∷ k ∷ m ∷ []) is = (record { l = l; n = n; b = b; k = k; m = m }, refl)
+shape_of ns is = absurd (omega arith)
 
 -- an event in its place has these words
 abbrev Spells : Option Shape → EventKind → List (List ℕ) → Type 0
@@ -364,31 +320,21 @@ word_is v w later is e = ap (λ (l : List ℕ). l ∷ []) (sym e) ∙ sym is
 words_are : (u v x y : List ℕ) (later : List (List ℕ)) → later ≡ x ∷ y ∷ [] → x ≡ u → y ≡ v → u ∷ v ∷ [] ≡ later
 words_are u v x y later is e f = (λ i. sym e i ∷ sym f i ∷ []) ∙ sym is
 
+size_of : (later : List (List ℕ)) (ns : List ℕ) → later ≡ map decimal ns → (count : ℕ) → length later ≡ count → length ns ≡ count
+size_of later ns is count size = sym (length-map ns decimal) ∙ ap length (sym is) ∙ size
+
 pub spelled : (shape : Option Shape) (kind : EventKind) (later : List (List ℕ)) → IsRight shape kind later → Spells shape kind later
 spelled None KindArray later right =
-    let s = right.limits refl in
-    (Array s.0, s.1, refl, sym s.2)
-spelled None KindWrite later right = absurd (right.order (λ is. cc is))
-spelled None KindRead later right = absurd (right.order (λ is. cc is))
-spelled None KindFail later right = absurd (right.order (λ is. cc is))
-spelled None KindReplace later right = absurd (right.order (λ is. cc is))
-spelled None KindRebuild later right = absurd (right.order (λ is. cc is))
-spelled None KindSettle later right = absurd (right.order (λ is. cc is))
-spelled None KindTend later right = absurd (right.order (λ is. cc is))
-spelled None KindDiffuse later right = absurd (right.order (λ is. cc is))
-spelled None KindWho later right = absurd (right.order (λ is. cc is))
-spelled None KindPending later right = absurd (right.order (λ is. cc is))
-spelled None KindCat later right = absurd (right.order (λ is. cc is))
-spelled None KindLs later right = absurd (right.order (λ is. cc is))
-spelled None KindTree later right = absurd (right.order (λ is. cc is))
-spelled None KindHome later right = absurd (right.order (λ is. cc is))
-spelled None KindSave later right = absurd (right.order (λ is. cc is))
-spelled None KindAudit later right = absurd (right.order (λ is. cc is))
-spelled None KindRegroup later right = absurd (right.order (λ is. cc is))
-spelled None KindLostFiles later right = absurd (right.order (λ is. cc is))
-spelled None KindDrop later right = absurd (right.order (λ is. cc is))
-spelled None KindMend later right = absurd (right.order (λ is. cc is))
+    let ns = all_numbers KindArray later refl right.count right.numbers in
+    let s = shape_of ns.0 (size_of later ns.0 ns.2 5 right.count) in
+    (Array s.0, subst (AreWithinLimits KindArray) s.1 (right.limits ns.0 ns.1 ns.2), refl, sym (ns.2 ∙ ap (map decimal) s.1))
+spelled None KindSafe later right =
+    let ns = all_numbers KindSafe later refl right.count right.numbers in
+    let s = shape_of ns.0 (size_of later ns.0 ns.2 5 right.count) in
+    (Safe s.0, subst (AreWithinLimits KindSafe) s.1 (right.limits ns.0 ns.1 ns.2), refl, sym (ns.2 ∙ ap (map decimal) s.1))
+spelled None kind later right = absurd (right.order refl)
 spelled (Some shape) KindArray later right = absurd (right.order refl)
+spelled (Some shape) KindSafe later right = absurd (right.order refl)
 spelled (Some shape) KindWrite later right =
     let w = two_of later right.count in
     let n = number_in_first w.0 w.1 later w.2 right.numbers in
@@ -470,34 +416,35 @@ right_line shape line event place is b =
 -- ---- what a line says behind its first word and a space
 
 -- what stands behind the first word and a space of an event's line
-text_of : (shape : Shape) (event : Event) → IsInPlace (Some shape) event → 0 < length (later_of event) → IsTextOf shape (event_kind event) (joined (later_of event))
-text_of shape (Array s) h some = absurd h
-text_of shape (Write b bytes) h some = (b, bytes, h.0, h.1, h.2, refl)
-text_of shape (Read b) h some = (b, h, refl)
-text_of shape (Tend n) h some = (n, h, refl)
-text_of shape (Who b) h some = (b, h, refl)
-text_of shape (Fail s j) h some = (s, j, h.0, h.1, refl)
-text_of shape (Replace s j) h some = (s, j, h.0, h.1, refl)
-text_of shape (Rebuild s n) h some = (s, n, h.0, h.1, refl)
-text_of shape (Cat path) h some = (path, h.0, h.1, refl)
-text_of shape (Ls path) h some = (path, h.0, h.1, refl)
-text_of shape (Home path) h some = (path, h.0, h.1, refl)
-text_of shape Settle h some = absurd (omega arith)
-text_of shape Diffuse h some = absurd (omega arith)
-text_of shape Pending h some = absurd (omega arith)
-text_of shape Tree h some = absurd (omega arith)
-text_of shape Save h some = absurd (omega arith)
-text_of shape Audit h some = absurd (omega arith)
-text_of shape Regroup h some = absurd (omega arith)
-text_of shape LostFiles h some = absurd (omega arith)
-text_of shape (DropDisk s j) h some = (s, j, h.0, h.1, refl)
-text_of shape (MendDisk s j) h some = (s, j, h.0, h.1, refl)
+text_of : (shape : Option Shape) (event : Event) → IsInPlace shape event → 0 < length (later_of event) → IsTextOf shape (event_kind event) (joined (later_of event))
+text_of None (Array s) h some = (s, h, refl)
+text_of None (Safe s) h some = (s, h, refl)
+text_of (Some shape) (Write b bytes) h some = (b, bytes, h.0, h.1, h.2, refl)
+text_of (Some shape) (Read b) h some = (b, h, refl)
+text_of (Some shape) (Tend n) h some = (n, h, refl)
+text_of (Some shape) (Who b) h some = (b, h, refl)
+text_of (Some shape) (Fail s j) h some = (s, j, h.0, h.1, refl)
+text_of (Some shape) (Replace s j) h some = (s, j, h.0, h.1, refl)
+text_of (Some shape) (Rebuild s n) h some = (s, n, h.0, h.1, refl)
+text_of (Some shape) (Cat path) h some = (path, h.0, h.1, refl)
+text_of (Some shape) (Ls path) h some = (path, h.0, h.1, refl)
+text_of (Some shape) (Home path) h some = (path, h.0, h.1, refl)
+text_of (Some shape) Settle h some = absurd (omega arith)
+text_of (Some shape) Diffuse h some = absurd (omega arith)
+text_of (Some shape) Pending h some = absurd (omega arith)
+text_of (Some shape) Tree h some = absurd (omega arith)
+text_of (Some shape) Save h some = absurd (omega arith)
+text_of (Some shape) Audit h some = absurd (omega arith)
+text_of (Some shape) Regroup h some = absurd (omega arith)
+text_of (Some shape) LostFiles h some = absurd (omega arith)
+text_of (Some shape) (DropDisk s j) h some = (s, j, h.0, h.1, refl)
+text_of (Some shape) (MendDisk s j) h some = (s, j, h.0, h.1, refl)
 text_of shape event h some = absurd h
 
-pub text_is : (shape : Shape) (line : List ℕ) (event : Event) (kind : EventKind) (text : List ℕ) → IsInPlace (Some shape) event → line ≡ spelling event
+pub text_is : (shape : Option Shape) (line : List ℕ) (event : Event) (kind : EventKind) (text : List ℕ) → IsInPlace shape event → line ≡ spelling event
     → words line ≡ word_of kind ∷ words text → 0 < length (words text) → IsTextOf shape kind text
 text_is shape line event kind text place is split some =
-    let own : word_of (event_kind event) ∷ later_of event ≡ word_of kind ∷ words text = sym (split_event (Some shape) event place) ∙ ap words (sym is) ∙ split in
+    let own : word_of (event_kind event) ∷ later_of event ≡ word_of kind ∷ words text = sym (split_event shape event place) ∙ ap words (sym is) ∙ split in
     let first : word_of (event_kind event) ≡ word_of kind = cc own in
     let later : later_of event ≡ words text = cc own in
     let same = kind_same (event_kind event) kind first in
@@ -506,3 +453,9 @@ text_is shape line event kind text place is split some =
     let P : EventKind → Type 0 = λ k. IsTextOf shape k (joined (later_of event)) in
     let Q : List ℕ → Type 0 = λ t. IsTextOf shape kind t in
     subst Q made (subst P same (text_of shape event place (omega arith)))
+
+-- something stands behind the first word of an event that makes an array
+pub later_some : (event : Event) → IsInPlace None event → 0 < length (later_of event)
+later_some (Array s) h = omega arith
+later_some (Safe s) h = omega arith
+later_some event h = absurd h

@@ -1,15 +1,18 @@
 -- How long lines are.
-use Rattle.std.proofs.Common.{◌≡◌, ◌<◌, ◌≤◌, ◌+◌, ◌*◌, ◌^◌, ◌⊎◌, ℕ, List, [], ◌∷◌, length, arith}
-use Rattle.std.specs.Prelude.{Option, Some, None}
+use Rattle.std.proofs.Common.{◌≡◌, ◌<◌, ◌≤◌, ◌+◌, ◌*◌, ◌^◌, ℕ, List, [], ◌∷◌, length, map, arith}
+use Rattle.std.specs.Prelude.{All, Option, Some, None, codes}
 use Rattle.std.specs.Fmt.{decimal}
 use Rattle.std.proofs.lemmas.List.{length-append}
+use Rattle.std.proofs.lemmas.List.Elements.{All-head, All-tail}
 use Rattle.std.proofs.lemmas.Fmt.{length-decimal-le}
 use Rattle.hex.specs.Hex.{lower_digits}
 use Rattle.hex.proofs.HexLemmas.{length-encode_with}
 use Rattle.dg_model.specs.declared.shapes.Shape.{Shape}
 use Rattle.dg_model.specs.declared.events.Event.{Event}
-use Rattle.dg_model.specs.declared.events.Event.TheVariants.{Array, Write, Read, Fail, Replace, Rebuild, Settle, Tend, Diffuse, Who, Pending, Cat, Ls, Tree, Home, Save, Audit, Regroup, LostFiles, DropDisk, MendDisk}
-use Rattle.dg_text.specs.Lines.{hex_word, line_of, IsInPlace, longest}
+use Rattle.dg_model.specs.declared.events.Event.TheVariants.{Array, Safe, Write, Read, Fail, Replace, Rebuild, Settle, Tend, Diffuse, Who, Pending, Cat, Ls, Tree, Home, Save, Audit, Regroup, LostFiles, DropDisk, MendDisk}
+use Rattle.dg_text.specs.Lines.{hex_word, line_of, shape_words, spelling, IsInPlace, longest}
+use Rattle.dg_text.proofs.LineWords.{joined}
+use Rattle.dg_text.proofs.Numbers.{IsSmall, shape_numbers, shape_small}
 use Rattle.dg_text.proofs.PathWords.{length-path_word}
 use Rattle.ufs_model.specs.Paths.{is_path, is_path_name, names_after}
 use Rattle.std.proofs.Common.{◌&&◌, true}
@@ -25,8 +28,15 @@ length_hex_word (x ∷ xs) = omega (arith, length-encode_with lower_digits (x �
 short : (n : ℕ) → n < 2 ^ 32 → length (decimal n) ≤ 10
 short n lt = length-decimal-le 10 n (omega arith) (omega arith) (omega arith)
 
-pub block_small : (l : ℕ) → (l ≡ 512) ⊎ (l ≡ 1024) ⊎ (l ≡ 2048) ⊎ (l ≡ 4096) → l < 2 ^ 32
-block_small l h = omega (arith, h)
+numbers_short : (ns : List ℕ) → All IsSmall ns → length (joined (map decimal ns)) ≤ 11 * length ns
+numbers_short [] small = omega arith
+numbers_short (n ∷ []) small =
+    let first = short n (All-head IsSmall n [] small) in
+    omega arith
+numbers_short (n ∷ m ∷ ns) small =
+    let first = short n (All-head IsSmall n (m ∷ ns) small) in
+    let rest = numbers_short (m ∷ ns) (All-tail IsSmall n (m ∷ ns) small) in
+    omega (arith, length-append (decimal n) (32 ∷ joined (map decimal (m ∷ ns))))
 
 -- a path has at most 1023 bytes
 pub path_short : (path : List ℕ) → is_path path ≡ true → length path ≤ 1023
@@ -39,12 +49,11 @@ path_short (b ∷ bytes) is =
 
 pub line_fits : (shape : Option Shape) (event : Event) → IsInPlace shape event → length (line_of event) ≤ longest shape
 line_fits None (Array s) h =
-    let l = short s.l (block_small s.l h.block) in
-    let n = short s.n (omega arith) in
-    let b = short s.b (omega arith) in
-    let k = short s.k (omega arith) in
-    let m = short s.m (omega arith) in
-    simp length-append (omega arith)
+    let most : length (shape_words s) ≤ 55 = numbers_short (shape_numbers s) (shape_small s h) in
+    omega (arith, most, length-append (spelling (Array s)) (codes "\n"))
+line_fits None (Safe s) h =
+    let most : length (shape_words s) ≤ 55 = numbers_short (shape_numbers s) (shape_small s h) in
+    omega (arith, most, length-append (spelling (Safe s)) (codes "\n"))
 line_fits (Some shape) (Write b bytes) h =
     let number = short b h.0 in
     let word = length_hex_word bytes in

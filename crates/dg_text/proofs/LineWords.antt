@@ -3,7 +3,7 @@ use Rattle.std.proofs.Common.{◌≡◌, ◌≢◌, ◌<◌, ◌==◌, Bool, tru
 use Rattle.std.specs.Prelude.{All, Contains, IsTrue}
 use Rattle.std.proofs.lemmas.Bool.{eqb-true}
 use Rattle.std.proofs.lemmas.Bool.Decides.{nat_tests}
-use Rattle.std.proofs.lemmas.List.Elements.{All-cons, All-head, All-tail}
+use Rattle.std.proofs.lemmas.List.Elements.{All-nil, All-cons, All-head, All-tail, All-append}
 use Rattle.dg_text.specs.Refusals.{IsNumberWord, in_front, words}
 use Rattle.dg_text.proofs.Cuts.{Lacks}
 
@@ -12,6 +12,13 @@ abbrev pub joined : List (List ℕ) → List ℕ
 joined [] = []
 joined (word ∷ []) = word
 joined (word ∷ next ∷ more) = word ++ 32 ∷ joined (next ∷ more)
+
+pub joined_lacks : (c : ℕ) (ws : List (List ℕ)) → 32 ≢ c → All (Lacks c) ws → Lacks c (joined ws)
+joined_lacks c [] other lacks = All-nil (λ x. x ≢ c)
+joined_lacks c (word ∷ []) other lacks = All-head (Lacks c) word [] lacks
+joined_lacks c (word ∷ next ∷ more) other lacks =
+    let rest = joined_lacks c (next ∷ more) other (All-tail (Lacks c) word (next ∷ more) lacks) in
+    All-append (λ x. x ≢ c) word (32 ∷ joined (next ∷ more)) (All-head (Lacks c) word (next ∷ more) lacks) (All-cons (λ x. x ≢ c) 32 (joined (next ∷ more)) other rest)
 
 words_none : words [] ≡ [] ∷ []
 unfolding words
@@ -41,6 +48,13 @@ words_cut [] rest lacks = words_space rest
 words_cut (c ∷ word) rest lacks =
     words_letter c (word ++ 32 ∷ rest) (not_space c (All-head (λ z. z ≢ 32) c word lacks))
     ∙ ap (λ (l : List (List ℕ)). in_front c l) (words_cut word rest (All-tail (λ z. z ≢ 32) c word lacks))
+
+-- and words put together are these words
+pub words_joined : (word : List ℕ) (more : List (List ℕ)) → All (Lacks 32) (word ∷ more) → words (joined (word ∷ more)) ≡ word ∷ more
+words_joined word [] lacks = words_whole word (All-head (Lacks 32) word [] lacks)
+words_joined word (next ∷ more) lacks =
+    words_cut word (joined (next ∷ more)) (All-head (Lacks 32) word (next ∷ more) lacks)
+    ∙ ap (λ (l : List (List ℕ)). word ∷ l) (words_joined next more (All-tail (Lacks 32) word (next ∷ more) lacks))
 
 some_front : (c : ℕ) (ws : List (List ℕ)) → 0 < length (in_front c ws)
 some_front c [] = omega arith

@@ -1,13 +1,16 @@
 -- The digits of numbers.
-use Rattle.std.proofs.Common.{◌≡◌, ◌<◌, ◌≤◌, ◌+◌, ◌^◌, ◌⊎◌, ℕ, List, [], ◌∷◌, inl, inr, length, slice_index, sym, ◌∙◌, ap, arith}
+use Rattle.std.proofs.Common.{◌≡◌, ◌<◌, ◌≤◌, ◌+◌, ◌^◌, ◌⊎◌, ℕ, List, [], ◌∷◌, inl, inr, length, map, slice_index, refl, sym, ◌∙◌, ap, arith}
 use Rattle.std.specs.Prelude.{All, Result, Ok}
 use Rattle.std.specs.Fmt.{decimal}
 use Rattle.std.specs.Int.{IsInRange}
 use Rattle.std.specs.Str.Parse.{AllDigits, ParsesUnsigned, digits_value}
 use Rattle.std.proofs.lemmas.Bool.{cases_lt}
-use Rattle.std.proofs.lemmas.Fmt.{decimal_digit, decimal_is_IsNumeral, decimal_nonempty, decimal-digits_value, first_decimal}
+use Rattle.std.proofs.lemmas.Fmt.{decimal_digit, decimal_is_IsNumeral, decimal_nonempty, decimal-digits_value, decimal_injective, first_decimal}
 use Rattle.std.proofs.lemmas.Str.Parse.{IsNumeralModel, digit_at, numerals_by_value, parse_plain, tells_digits}
-use Rattle.std.proofs.lemmas.List.Elements.{All-from_get_or, All-get_or}
+use Rattle.std.proofs.lemmas.List.Elements.{All-nil, All-cons, All-head, All-tail, All-from_get_or, All-get_or}
+use Rattle.dg_model.specs.Shapes.{IsShape}
+use Rattle.dg_model.specs.declared.shapes.Shape.{Shape}
+use Rattle.dg_text.specs.Refusals.{IsNumberWord}
 use Rattle.dg_text.proofs.Cuts.{Lacks, Lacks-from_above}
 
 -- digits begin at 48
@@ -57,3 +60,59 @@ number_is E text n parses padded =
     let small : digits_value 10 text < 2 ^ 32 = read.0.2 in
     let spelled = decimal-digits_value own text read.0.0 read.0.1 (λ zero. one_long text read.0.1 (λ long. padded (inr (zero, long)))) (omega arith) in
     (omega arith, sym spelled ∙ ap (λ (k : ℕ). decimal k) (sym value))
+
+-- ---- several numbers
+
+abbrev pub IsSmall : ℕ → Type 0
+IsSmall n = n < 2 ^ 32
+
+-- some words spell numbers
+abbrev pub HasNumbers : List (List ℕ) → Type 0
+HasNumbers later = (ns : List ℕ) × All IsSmall ns × (later ≡ map decimal ns)
+
+pub has_numbers : (later : List (List ℕ)) → All IsNumberWord later → HasNumbers later
+has_numbers [] all = ([], All-nil IsSmall, refl)
+has_numbers (w ∷ later) all =
+    let first = All-head IsNumberWord w later all in
+    let rest = has_numbers later (All-tail IsNumberWord w later all) in
+    (first.0 ∷ rest.0, All-cons IsSmall first.0 rest.0 first.1 rest.1, λ i. first.2 i ∷ rest.2 i)
+
+pub numbers_lack : (c : ℕ) (ns : List ℕ) → c < 48 → All IsSmall ns → All (Lacks c) (map decimal ns)
+numbers_lack c [] low small = All-nil (Lacks c)
+numbers_lack c (n ∷ ns) low small =
+    let first : n < 2 ^ 32 = All-head IsSmall n ns small in
+    All-cons (Lacks c) (decimal n) (map decimal ns) (decimal_lacks c n low (omega arith)) (numbers_lack c ns low (All-tail IsSmall n ns small))
+
+pub number_words : (ns : List ℕ) → All IsSmall ns → All IsNumberWord (map decimal ns)
+number_words [] small = All-nil IsNumberWord
+number_words (n ∷ ns) small =
+    All-cons IsNumberWord (decimal n) (map decimal ns) (n, All-head IsSmall n ns small, refl) (number_words ns (All-tail IsSmall n ns small))
+
+-- and they spell these alone
+pub numbers_same : (ns ms : List ℕ) → All IsSmall ns → All IsSmall ms → map decimal ns ≡ map decimal ms → ns ≡ ms
+numbers_same [] [] hn hm e = refl
+numbers_same [] (m ∷ ms) hn hm e = absurd (cc e)
+numbers_same (n ∷ ns) [] hn hm e = absurd (cc e)
+numbers_same (n ∷ ns) (m ∷ ms) hn hm e =
+    let word : decimal n ≡ decimal m = cc e in
+    let more : map decimal ns ≡ map decimal ms = cc e in
+    let low : n < 2 ^ 32 = All-head IsSmall n ns hn in
+    let small : m < 2 ^ 32 = All-head IsSmall m ms hm in
+    let first = decimal_injective n m (omega arith) (omega arith) word in
+    let rest = numbers_same ns ms (All-tail IsSmall n ns hn) (All-tail IsSmall m ms hm) more in
+    cc (first, rest)
+
+-- ---- the numbers of an array
+
+pub block_small : (l : ℕ) → (l ≡ 512) ⊎ (l ≡ 1024) ⊎ (l ≡ 2048) ⊎ (l ≡ 4096) → l < 2 ^ 32
+block_small l h = omega (arith, h)
+
+abbrev pub shape_numbers : Shape → List ℕ
+shape_numbers s = s.l ∷ s.n ∷ s.b ∷ s.k ∷ s.m ∷ []
+
+pub shape_small : (s : Shape) → IsShape s → All IsSmall (shape_numbers s)
+shape_small s h =
+    All-cons IsSmall s.l (s.n ∷ s.b ∷ s.k ∷ s.m ∷ []) (block_small s.l h.block)
+    (All-cons IsSmall s.n (s.b ∷ s.k ∷ s.m ∷ []) (omega arith)
+    (All-cons IsSmall s.b (s.k ∷ s.m ∷ []) (omega arith)
+    (All-cons IsSmall s.k (s.m ∷ []) (omega arith) (All-cons IsSmall s.m [] (omega arith) (All-nil IsSmall)))))

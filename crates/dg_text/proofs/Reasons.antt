@@ -1,22 +1,29 @@
 -- Why a line is refused: each answer from what was found out in its order.
-use Rattle.std.proofs.Common.{◌≡◌, ◌≢◌, ◌⊎◌, inl, inr, ℕ, List, [], ◌∷◌, length, take, drop, refl, sym, ◌∙◌, ap, subst, arith}
+use Rattle.std.proofs.Common.{◌≡◌, ◌≢◌, ◌⊎◌, inl, inr, ℕ, List, [], ◌∷◌, length, map, take, drop, refl, sym, ◌∙◌, ap, subst}
 use Rattle.std.specs.Prelude.{All, Contains, Option, None, Result, Ok, Err}
 use Rattle.std.specs.Fmt.{decimal}
-use Rattle.std.proofs.lemmas.Fmt.{decimal_injective}
-use Rattle.dg_model.specs.Shapes.{KeepsLimits}
 use Rattle.dg_model.specs.declared.shapes.Shape.{Shape}
 use Rattle.dg_model.specs.declared.events.Event.{Event}
 use Rattle.dg_text.specs.Lines.{block_bytes, spelling, IsInPlace}
-use Rattle.dg_text.specs.Refusals.{Begins, BreaksLimits, Fits, IsEventOf, IsFirst, IsHexWord, IsNumberWord, IsOutOfOrder, IsPathWord, IsRefused, Reads, count_of, numbers_of, tail_of}
+use Rattle.dg_text.specs.Refusals.{AreWithinLimits, Begins, BreaksLimits, Fits, IsEventOf, IsFirst, IsHexWord, IsNumberWord, IsOutOfOrder, IsPathWord, IsRefused, Reads, count_of, numbers_of, tail_of}
 use Rattle.dg_text.specs.declared.kinds.EventKind.{EventKind}
-use Rattle.dg_text.specs.declared.kinds.EventKind.TheVariants.{Array}
+use Rattle.dg_text.specs.declared.kinds.EventKind.TheVariants.{Array, Safe}
 use Rattle.dg_text.specs.declared.kinds.Tail.TheVariants.{Nothing, Bytes, Path as PathTail}
 use Rattle.dg_text.specs.declared.lines.BadLine.{BadLine}
 use Rattle.dg_text.specs.declared.lines.BadLine.TheVariants.{Long, Size, Cut, Word, Order, Form, Number, Limits, Hex, Path}
-use Rattle.dg_text.proofs.EventWords.{AreShapeWords, IsRight, array_numbers, begins_of, line_spelled, right_line}
+use Rattle.dg_text.proofs.EventWords.{IsRight, all_numbers, begins_of, line_spelled, right_line}
 use Rattle.dg_text.proofs.KindWords.{begins_once}
-use Rattle.dg_text.proofs.Lengths.{block_small}
+use Rattle.dg_text.proofs.Numbers.{IsSmall, numbers_same}
 use Rattle.dg_text.proofs.Spellings.{spelling_same}
+
+-- where something stands behind the numbers, these have no limits
+pub no_limits : (kind : EventKind) (ns : List ℕ) → (tail_of kind ≡ Nothing → ⊥) → AreWithinLimits kind ns
+no_limits Array ns other = absurd (other refl)
+no_limits Safe ns other = absurd (other refl)
+no_limits kind ns other = tt
+
+unbroken : (kind : EventKind) (later : List (List ℕ)) → (tail_of kind ≡ Nothing → ⊥) → BreaksLimits kind later → ⊥
+unbroken kind later other breaks = breaks.broken (no_limits kind breaks.numbers other)
 
 module _ (shape : Option Shape) (line : List ℕ) where
   -- what holds of the line's words holds however they are found
@@ -46,11 +53,8 @@ module _ (shape : Option Shape) (line : List ℕ) where
       let P : EventKind → List (List ℕ) → Type 0 = λ kind later. All IsNumberWord (take (numbers_of kind) later) in
       h.1 (along P b h.0 numbers)
 
-  not_limits : (b : Begins line) → (b.kind ≡ Array → BreaksLimits b.later → ⊥) → Fits shape line Limits → ⊥
-  not_limits b limits h =
-      let P : EventKind → List (List ℕ) → Type 0 = λ kind later. (kind ≡ Array) × BreaksLimits later in
-      let here = along P h.0 b (h.1, h.2) in
-      limits here.0 here.1
+  not_limits : (b : Begins line) → (BreaksLimits b.kind b.later → ⊥) → Fits shape line Limits → ⊥
+  not_limits b limits h = limits (along (λ kind later. BreaksLimits kind later) h.0 b h.1)
 
   not_hex : (b : Begins line) → (tail_of b.kind ≡ Bytes → All (IsHexWord (block_bytes shape)) (drop (numbers_of b.kind) b.later)) → Fits shape line Hex → ⊥
   not_hex b hex h =
@@ -83,53 +87,31 @@ module _ (shape : Option Shape) (line : List ℕ) where
   by_number b form wrong =
       inr (not_word b, inr (not_order b form.order, inr (not_form b form.count form.filled, inl (refl, (b, wrong)))))
 
-  pub by_limits : (b : Begins line) → IsFormed b → All IsNumberWord (take (numbers_of b.kind) b.later) → b.kind ≡ Array → BreaksLimits b.later → IsRefused shape line Limits
-  by_limits b form numbers array breaks =
-      inr (not_word b, inr (not_order b form.order, inr (not_form b form.count form.filled, inr (not_number b numbers, inl (refl, (b, array, breaks))))))
+  pub by_limits : (b : Begins line) → IsFormed b → All IsNumberWord (take (numbers_of b.kind) b.later) → BreaksLimits b.kind b.later → IsRefused shape line Limits
+  by_limits b form numbers breaks =
+      inr (not_word b, inr (not_order b form.order, inr (not_form b form.count form.filled, inr (not_number b numbers, inl (refl, (b, breaks))))))
 
   pub by_hex : (b : Begins line) → IsFormed b → All IsNumberWord (take (numbers_of b.kind) b.later) → tail_of b.kind ≡ Bytes
       → (All (IsHexWord (block_bytes shape)) (drop (numbers_of b.kind) b.later) → ⊥) → IsRefused shape line Hex
   by_hex b form numbers tail wrong =
-      let limits : b.kind ≡ Array → BreaksLimits b.later → ⊥ = λ array breaks. absurd (cc (tail, ap tail_of array)) in
+      let limits = unbroken b.kind b.later (λ is. cc (tail, is)) in
       inr (not_word b, inr (not_order b form.order, inr (not_form b form.count form.filled, inr (not_number b numbers, inr (not_limits b limits, inl (refl, (b, tail, wrong)))))))
 
   pub by_path : (b : Begins line) → IsFormed b → All IsNumberWord (take (numbers_of b.kind) b.later) → tail_of b.kind ≡ PathTail
       → (All IsPathWord (drop (numbers_of b.kind) b.later) → ⊥) → IsRefused shape line Path
   by_path b form numbers tail wrong =
-      let limits : b.kind ≡ Array → BreaksLimits b.later → ⊥ = λ array breaks. absurd (cc (tail, ap tail_of array)) in
+      let limits = unbroken b.kind b.later (λ is. cc (tail, is)) in
       let hex : tail_of b.kind ≡ Bytes → All (IsHexWord (block_bytes shape)) (drop (numbers_of b.kind) b.later) = λ bytes. absurd (cc (tail, bytes)) in
       inr (not_word b, inr (not_order b form.order, inr (not_form b form.count form.filled, inr (not_number b numbers, inr (not_limits b limits, inr (not_hex b hex, inl (refl, (b, tail, wrong))))))))
 
 -- ---- an event's line isn't refused
-
--- the words of an array spell its numbers alone
-limits_kept : (later : List (List ℕ)) → AreShapeWords later → BreaksLimits later → ⊥
-limits_kept later (s, h, is) broken =
-    let words : decimal broken.l ∷ decimal broken.n ∷ decimal broken.b ∷ decimal broken.k ∷ decimal broken.m ∷ []
-    ≡ decimal s.l ∷ decimal s.n ∷ decimal s.b ∷ decimal s.k ∷ decimal s.m ∷ [] = sym broken.spelled ∙ is in
-    let wl : decimal broken.l ≡ decimal s.l = cc words in
-    let wn : decimal broken.n ≡ decimal s.n = cc words in
-    let wb : decimal broken.b ≡ decimal s.b = cc words in
-    let wk : decimal broken.k ≡ decimal s.k = cc words in
-    let wm : decimal broken.m ≡ decimal s.m = cc words in
-    let block = block_small s.l h.block in
-    let l = decimal_injective broken.l s.l (omega (arith, broken.small.0)) (omega arith) wl in
-    let n = decimal_injective broken.n s.n (omega (arith, broken.small.1)) (omega arith) wn in
-    let b = decimal_injective broken.b s.b (omega (arith, broken.small.2)) (omega arith) wb in
-    let k = decimal_injective broken.k s.k (omega (arith, broken.small.3)) (omega arith) wk in
-    let m = decimal_injective broken.m s.m (omega (arith, broken.small.4)) (omega arith) wm in
-    broken.broken (subst (λ x. KeepsLimits x broken.n broken.b broken.k broken.m) (sym l)
-    (subst (λ x. KeepsLimits s.l x broken.b broken.k broken.m) (sym n)
-    (subst (λ x. KeepsLimits s.l s.n x broken.k broken.m) (sym b)
-    (subst (λ x. KeepsLimits s.l s.n s.b x broken.m) (sym k)
-    (subst (λ x. KeepsLimits s.l s.n s.b s.k x) (sym m) h)))))
 
 fits_none : (shape : Option Shape) (line : List ℕ) (b : Begins line) → IsRight shape b.kind b.later → (kind : BadLine) → Fits shape line kind → ⊥
 fits_none shape line b right Word h = h b
 fits_none shape line b right Order h = not_order shape line b right.order h
 fits_none shape line b right Form h = not_form shape line b right.count right.filled h
 fits_none shape line b right Number h = not_number shape line b right.numbers h
-fits_none shape line b right Limits h = not_limits shape line b (λ array. limits_kept b.later (right.limits array)) h
+fits_none shape line b right Limits h = not_limits shape line b (λ breaks. breaks.broken (right.limits breaks.numbers breaks.small breaks.spelled)) h
 fits_none shape line b right Hex h = not_hex shape line b right.hex h
 fits_none shape line b right Path h = not_path shape line b right.path h
 fits_none shape line b right Long h = h
@@ -172,39 +154,29 @@ not_right shape line b none right =
 
 module _ (shape : Option Shape) (line : List ℕ) (b : Begins line) (form : IsFormed shape line b) (numbers : All IsNumberWord (take (numbers_of b.kind) b.later))
     (none : IsEventOf shape line None) where
-  right_of : (b.kind ≡ Array → AreShapeWords b.later) → (tail_of b.kind ≡ Bytes → All (IsHexWord (block_bytes shape)) (drop (numbers_of b.kind) b.later))
+  right_of : ((ns : List ℕ) → All IsSmall ns → b.later ≡ map decimal ns → AreWithinLimits b.kind ns)
+      → (tail_of b.kind ≡ Bytes → All (IsHexWord (block_bytes shape)) (drop (numbers_of b.kind) b.later))
       → (tail_of b.kind ≡ PathTail → All IsPathWord (drop (numbers_of b.kind) b.later)) → IsRight shape b.kind b.later
   right_of limits hex path = record { order = form.order; count = form.count; filled = form.filled; numbers = numbers; limits = limits; hex = hex; path = path }
 
-  only_array : tail_of b.kind ≡ Nothing → (b.kind ≡ Array → AreShapeWords b.later) → ⊥
-  only_array tail limits = not_right shape line b none (right_of limits (λ is. absurd (cc (tail, is))) (λ is. absurd (cc (tail, is))))
-
-  by_array : tail_of b.kind ≡ Nothing → b.kind ≡ Array → IsRefused shape line Limits
-  by_array tail array =
-      let five = array_numbers b.kind b.later array form.count numbers in
-      let s : Shape = record { l = five.l; n = five.n; b = five.b; k = five.k; m = five.m } in
-      by_limits shape line b form numbers array (record {
-        l = five.l;
-        n = five.n;
-        b = five.b;
-        k = five.k;
-        m = five.m;
-        small = five.small;
-        spelled = five.spelled;
-        broken = λ keeps. only_array tail (λ is. (s, keeps, five.spelled));
+  -- where no word but numbers may stand, these break a limit
+  pub left_limits : tail_of b.kind ≡ Nothing → IsRefused shape line Limits
+  left_limits tail =
+      let ns = all_numbers b.kind b.later tail form.count numbers in
+      by_limits shape line b form numbers (record {
+        numbers = ns.0;
+        small = ns.1;
+        spelled = ns.2;
+        broken = λ within. not_right shape line b none
+            (right_of (λ ms low is. subst (AreWithinLimits b.kind) (numbers_same ns.0 ms ns.1 low (sym ns.2 ∙ is)) within) (λ is. absurd (cc (tail, is))) (λ is. absurd (cc (tail, is))));
       })
-
-  -- where no word but numbers may stand, the limits of an array are broken
-  pub left_limits : tail_of b.kind ≡ Nothing → (b.kind ≡ Array) ⊎ (b.kind ≡ Array → ⊥) → IsRefused shape line Limits
-  left_limits tail (inl array) = by_array tail array
-  left_limits tail (inr other) = absurd (only_array tail (λ is. absurd (other is)))
 
   -- where bytes stand behind them, these aren't spelled
   pub left_hex : tail_of b.kind ≡ Bytes → IsRefused shape line Hex
   left_hex tail = by_hex shape line b form numbers tail
-      (λ hex. not_right shape line b none (right_of (λ array. absurd (cc (tail, ap tail_of array))) (λ is. hex) (λ is. absurd (cc (tail, is)))))
+      (λ hex. not_right shape line b none (right_of (λ ns low is. no_limits b.kind ns (λ nothing. cc (tail, nothing))) (λ is. hex) (λ is. absurd (cc (tail, is)))))
 
   -- and where a path stands there, it isn't
   pub left_path : tail_of b.kind ≡ PathTail → IsRefused shape line Path
   left_path tail = by_path shape line b form numbers tail
-      (λ path. not_right shape line b none (right_of (λ array. absurd (cc (tail, ap tail_of array))) (λ is. absurd (cc (tail, is))) (λ is. path)))
+      (λ path. not_right shape line b none (right_of (λ ns low is. no_limits b.kind ns (λ nothing. cc (tail, nothing))) (λ is. absurd (cc (tail, is))) (λ is. path)))

@@ -5,15 +5,14 @@ use Rattle.std.specs.Fmt.{decimal}
 use Rattle.std.proofs.lemmas.Fmt.{decimal_injective}
 use Rattle.std.proofs.lemmas.List.Elements.{All-nil, All-cons, All-head, All-tail}
 use Rattle.hex.specs.Hex.{encode_lower}
-use Rattle.dg_model.specs.Shapes.{IsShape}
 use Rattle.dg_model.specs.declared.shapes.Shape.{Shape}
 use Rattle.dg_model.specs.declared.events.Event.{Event}
-use Rattle.dg_model.specs.declared.events.Event.TheVariants.{Array, Write, Read, Fail, Replace, Rebuild, Settle, Tend, Diffuse, Who, Pending, Cat, Ls, Tree, Home, Save, Audit, Regroup, LostFiles, DropDisk, MendDisk}
-use Rattle.dg_text.specs.Lines.{AreBytes, AreInPlace, hex_word, path_word, spelled_byte, is_plain, spelling, line_of, input_of, IsInPlace}
+use Rattle.dg_model.specs.declared.events.Event.TheVariants.{Array, Safe, Write, Read, Fail, Replace, Rebuild, Settle, Tend, Diffuse, Who, Pending, Cat, Ls, Tree, Home, Save, Audit, Regroup, LostFiles, DropDisk, MendDisk}
+use Rattle.dg_text.specs.Lines.{AreBytes, AreInPlace, hex_word, path_word, spelled_byte, is_plain, spelling, line_of, input_of, shape_made, IsInPlace}
 use Rattle.dg_text.specs.Refusals.{numbers_of, tail_of, word_of, words}
 use Rattle.dg_text.specs.Texts.{event_kind, is_spelled}
 use Rattle.dg_text.specs.declared.kinds.EventKind.{EventKind}
-use Rattle.dg_text.specs.declared.kinds.EventKind.TheVariants.{Array as KindArray, Write as KindWrite, Read as KindRead, Fail as KindFail, Replace as KindReplace, Rebuild as KindRebuild, Settle as KindSettle, Tend as KindTend, Diffuse as KindDiffuse, Who as KindWho, Pending as KindPending, Cat as KindCat, Ls as KindLs, Tree as KindTree, Home as KindHome, Save as KindSave, Audit as KindAudit, Regroup as KindRegroup, LostFiles as KindLostFiles, Drop as KindDrop, Mend as KindMend}
+use Rattle.dg_text.specs.declared.kinds.EventKind.TheVariants.{Array as KindArray, Safe as KindSafe, Write as KindWrite, Read as KindRead, Fail as KindFail, Replace as KindReplace, Rebuild as KindRebuild, Settle as KindSettle, Tend as KindTend, Diffuse as KindDiffuse, Who as KindWho, Pending as KindPending, Cat as KindCat, Ls as KindLs, Tree as KindTree, Home as KindHome, Save as KindSave, Audit as KindAudit, Regroup as KindRegroup, LostFiles as KindLostFiles, Drop as KindDrop, Mend as KindMend}
 use Rattle.dg_text.specs.declared.kinds.Tail.{Tail}
 use Rattle.dg_text.specs.declared.kinds.Tail.TheVariants.{Nothing, Bytes, Path as PathTail}
 use Rattle.dg_text.proofs.Cuts.{first_cut}
@@ -21,7 +20,7 @@ use Rattle.dg_text.proofs.EventWords.{later_of, split_event}
 use Rattle.dg_text.proofs.HexWords.{dash_is_none, encoded_same, one_byte}
 use Rattle.dg_text.proofs.KindWords.{kind_same}
 use Rattle.dg_text.proofs.PathWords.{path_word_none, path_word_first, path_none, front_tells, plain_exact, escaped_exact, two_digits}
-use Rattle.dg_text.proofs.Lengths.{block_small}
+use Rattle.dg_text.proofs.Numbers.{IsSmall, shape_numbers, shape_small}
 use Rattle.dg_text.proofs.WholeLines.{spelling_lacks}
 
 -- ---- bytes
@@ -64,7 +63,8 @@ path_same (x ∷ p) (y ∷ q) hp hq e =
 
 -- the numbers of an event
 numbers_in : Event → List ℕ
-numbers_in (Array s) = s.l ∷ s.n ∷ s.b ∷ s.k ∷ s.m ∷ []
+numbers_in (Array s) = shape_numbers s
+numbers_in (Safe s) = shape_numbers s
 numbers_in (Write b bytes) = b ∷ []
 numbers_in (Read b) = b ∷ []
 numbers_in (Fail s j) = s ∷ j ∷ []
@@ -90,6 +90,7 @@ numbers_in event = []
 -- its bytes
 bytes_in : Event → List ℕ
 bytes_in (Array s) = []
+bytes_in (Safe s) = []
 bytes_in (Write b bytes) = bytes
 bytes_in (Read b) = []
 bytes_in (Fail s j) = []
@@ -112,9 +113,14 @@ bytes_in (DropDisk s j) = []
 bytes_in (MendDisk s j) = []
 bytes_in event = []
 
+-- the array of some numbers
+abbrev shape_by : List ℕ → Shape
+shape_by ns = record { l = get_or ns 0 0; n = get_or ns 1 0; b = get_or ns 2 0; k = get_or ns 3 0; m = get_or ns 4 0 }
+
 -- the event of some numbers and bytes
 made_of : EventKind → List ℕ → List ℕ → Event
-made_of KindArray ns bs = Array (record { l = get_or ns 0 0; n = get_or ns 1 0; b = get_or ns 2 0; k = get_or ns 3 0; m = get_or ns 4 0 })
+made_of KindArray ns bs = Array (shape_by ns)
+made_of KindSafe ns bs = Safe (shape_by ns)
 made_of KindWrite ns bs = Write (get_or ns 0 0) bs
 made_of KindRead ns bs = Read (get_or ns 0 0)
 made_of KindFail ns bs = Fail (get_or ns 0 0) (get_or ns 1 0)
@@ -139,6 +145,7 @@ made_of KindMend ns bs = MendDisk (get_or ns 0 0) (get_or ns 1 0)
 made_back : (event : Event) → is_spelled event ≡ true → made_of (event_kind event) (numbers_in event) (bytes_in event) ≡ event
 unfolding numbers_in bytes_in made_of
 made_back (Array s) is = refl
+made_back (Safe s) is = refl
 made_back (Write b bytes) is = refl
 made_back (Read b) is = refl
 made_back (Fail s j) is = refl
@@ -170,6 +177,7 @@ tail_words PathTail bs = path_word bs ∷ []
 later_is : (event : Event) → later_of event ≡ map decimal (numbers_in event) ++ tail_words (tail_of (event_kind event)) (bytes_in event)
 unfolding numbers_in bytes_in
 later_is (Array s) = refl
+later_is (Safe s) = refl
 later_is (Write b bytes) = refl
 later_is (Read b) = refl
 later_is (Fail s j) = refl
@@ -195,6 +203,7 @@ later_is event = refl
 numbers_count : (event : Event) → length (numbers_in event) ≡ numbers_of (event_kind event)
 unfolding numbers_in
 numbers_count (Array s) = refl
+numbers_count (Safe s) = refl
 numbers_count (Write b bytes) = refl
 numbers_count (Read b) = refl
 numbers_count (Fail s j) = refl
@@ -217,24 +226,16 @@ numbers_count (DropDisk s j) = refl
 numbers_count (MendDisk s j) = refl
 numbers_count event = refl
 
-abbrev IsSmall : ℕ → Type 0
-IsSmall n = n < 2 ^ 32
-
 one_small : (n : ℕ) → n < 2 ^ 32 → All IsSmall (n ∷ [])
 one_small n small = All-cons IsSmall n [] small (All-nil IsSmall)
 
 two_small : (m n : ℕ) → m < 2 ^ 32 → n < 2 ^ 32 → All IsSmall (m ∷ n ∷ [])
 two_small m n low small = All-cons IsSmall m (n ∷ []) low (one_small n small)
 
-array_small : (s : Shape) → IsShape s → All IsSmall (s.l ∷ s.n ∷ s.b ∷ s.k ∷ s.m ∷ [])
-array_small s h =
-    All-cons IsSmall s.l (s.n ∷ s.b ∷ s.k ∷ s.m ∷ []) (block_small s.l h.block)
-    (All-cons IsSmall s.n (s.b ∷ s.k ∷ s.m ∷ []) (omega arith)
-    (All-cons IsSmall s.b (s.k ∷ s.m ∷ []) (omega arith) (two_small s.k s.m (omega arith) (omega arith))))
-
 numbers_small : (shape : Option Shape) (event : Event) → IsInPlace shape event → All IsSmall (numbers_in event)
 unfolding numbers_in
-numbers_small None (Array s) h = array_small s h
+numbers_small None (Array s) h = shape_small s h
+numbers_small None (Safe s) h = shape_small s h
 numbers_small (Some shape) (Write b bytes) h = one_small b h.0
 numbers_small (Some shape) (Read b) h = one_small b h
 numbers_small (Some shape) (Tend n) h = one_small n h
@@ -266,6 +267,7 @@ IsTail PathTail bs = AreBytes bs
 tail_right : (shape : Option Shape) (event : Event) → IsInPlace shape event → IsTail (tail_of (event_kind event)) (bytes_in event)
 unfolding bytes_in
 tail_right None (Array s) h = refl
+tail_right None (Safe s) h = refl
 tail_right (Some shape) (Write b bytes) h = h.2
 tail_right (Some shape) (Read b) h = refl
 tail_right (Some shape) (Tend n) h = refl
@@ -294,22 +296,23 @@ tail_same Bytes bs cs hb hc e = hex_same bs cs hb hc (cc e)
 tail_same PathTail bs cs hb hc e = path_same bs cs hb hc (cc e)
 
 -- numbers in front of other words
-numbers_same : (ns ms : List ℕ) (xs ys : List (List ℕ)) → length ns ≡ length ms → All IsSmall ns → All IsSmall ms → map decimal ns ++ xs ≡ map decimal ms ++ ys → (ns ≡ ms) × (xs ≡ ys)
-numbers_same [] [] xs ys size hn hm e = (refl, e)
-numbers_same [] (m ∷ ms) xs ys size hn hm e = absurd (omega arith)
-numbers_same (n ∷ ns) [] xs ys size hn hm e = absurd (omega arith)
-numbers_same (n ∷ ns) (m ∷ ms) xs ys size hn hm e =
+fronts_same : (ns ms : List ℕ) (xs ys : List (List ℕ)) → length ns ≡ length ms → All IsSmall ns → All IsSmall ms → map decimal ns ++ xs ≡ map decimal ms ++ ys → (ns ≡ ms) × (xs ≡ ys)
+fronts_same [] [] xs ys size hn hm e = (refl, e)
+fronts_same [] (m ∷ ms) xs ys size hn hm e = absurd (omega arith)
+fronts_same (n ∷ ns) [] xs ys size hn hm e = absurd (omega arith)
+fronts_same (n ∷ ns) (m ∷ ms) xs ys size hn hm e =
     let word : decimal n ≡ decimal m = cc e in
     let more : map decimal ns ++ xs ≡ map decimal ms ++ ys = cc e in
     let low : n < 2 ^ 32 = All-head IsSmall n ns hn in
     let small : m < 2 ^ 32 = All-head IsSmall m ms hm in
     let first = decimal_injective n m (omega arith) (omega arith) word in
-    let rest = numbers_same ns ms xs ys (omega arith) (All-tail IsSmall n ns hn) (All-tail IsSmall m ms hm) more in
+    let rest = fronts_same ns ms xs ys (omega arith) (All-tail IsSmall n ns hn) (All-tail IsSmall m ms hm) more in
     (cc (first, rest.0), rest.1)
 
 -- what stands in its place is spelled
 in_place_spelled : (shape : Option Shape) (event : Event) → IsInPlace shape event → is_spelled event ≡ true
 in_place_spelled None (Array s) h = refl
+in_place_spelled None (Safe s) h = refl
 in_place_spelled (Some shape) (Write b bytes) h = refl
 in_place_spelled (Some shape) (Read b) h = refl
 in_place_spelled (Some shape) (Fail s j) h = refl
@@ -342,7 +345,7 @@ spelling_same shape a b h g e =
     let size : length (numbers_in a) ≡ length (numbers_in b) = numbers_count a ∙ ap numbers_of kind ∙ sym (numbers_count b) in
     let P : EventKind → Type 0 = λ k. IsTail (tail_of k) (bytes_in a) in
     let Q : EventKind → Type 0 = λ k. map decimal (numbers_in a) ++ tail_words (tail_of k) (bytes_in a) ≡ map decimal (numbers_in b) ++ tail_words (tail_of (event_kind b)) (bytes_in b) in
-    let both = numbers_same (numbers_in a) (numbers_in b) _ _ size (numbers_small shape a h) (numbers_small shape b g) (subst Q kind (sym (later_is a) ∙ later ∙ later_is b)) in
+    let both = fronts_same (numbers_in a) (numbers_in b) _ _ size (numbers_small shape a h) (numbers_small shape b g) (subst Q kind (sym (later_is a) ∙ later ∙ later_is b)) in
     let bytes = tail_same (tail_of (event_kind b)) (bytes_in a) (bytes_in b) (subst P kind (tail_right shape a h)) (tail_right shape b g) both.1 in
     sym (made_back a (in_place_spelled shape a h)) ∙ (λ i. made_of (kind i) (both.0 i) (bytes i)) ∙ made_back b (in_place_spelled shape b g)
 
@@ -365,19 +368,13 @@ lines_same shape (x ∷ xs) (y ∷ ys) hx hy e =
     let rest = lines_same shape xs ys (All-tail (IsInPlace shape) x xs hx) (All-tail (IsInPlace shape) y ys hy) cut.1 in
     cc (cut.0, rest)
 
-behind_same : (s t : Shape) (xs ys : List Event) → s ≡ t → All (IsInPlace (Some s)) xs → All (IsInPlace (Some t)) ys → input_of xs ≡ input_of ys → Array s ∷ xs ≡ Array t ∷ ys
-behind_same s t xs ys same hx hy e =
-    let back : All (IsInPlace (Some s)) ys = rw same hy in
-    cc (same, lines_same (Some s) xs ys hx back e)
-
 -- the input spells its events in one way
 pub input_same : (xs ys : List Event) → AreInPlace xs → AreInPlace ys → input_of xs ≡ input_of ys → xs ≡ ys
 input_same [] [] hx hy e = refl
 input_same [] (y ∷ ys) hx hy e = absurd (no_line y (input_of ys) e)
 input_same (x ∷ xs) [] hx hy e = absurd (no_line x (input_of xs) (sym e))
-input_same (Array s ∷ xs) (Array t ∷ ys) hx hy e =
-    let cut = line_cut None (Array s) (Array t) (input_of xs) (input_of ys) hx.0 hy.0 e in
-    let same : s ≡ t = cc cut.0 in
-    behind_same s t xs ys same hx.1 hy.1 cut.1
-input_same (Array s ∷ xs) (y ∷ ys) hx hy e = absurd hy
-input_same (x ∷ xs) (y ∷ ys) hx hy e = absurd hx
+input_same (x ∷ xs) (y ∷ ys) hx hy e =
+    let cut = line_cut None x y (input_of xs) (input_of ys) hx.0 hy.0 e in
+    let P : Event → Type 0 = λ first. All (IsInPlace (shape_made first)) ys in
+    let rest = lines_same (shape_made x) xs ys hx.1 (subst P (sym cut.0) hy.1) cut.1 in
+    cc (cut.0, rest)

@@ -1,6 +1,6 @@
 -- A line ends at its first LF, since no spelling has one.
-use Rattle.std.proofs.Common.{◌≡◌, ◌≢◌, ◌<◌, ◌≤◌, ◌^◌, inl, inr, ltb, ℕ, List, [], ◌∷◌, ◌++◌, refl, ◌∙◌, true, append_assoc, arith}
-use Rattle.std.specs.Prelude.{Option, Some, None, Contains, codes}
+use Rattle.std.proofs.Common.{◌≡◌, ◌≢◌, ◌<◌, ◌≤◌, ◌^◌, inl, inr, ltb, ℕ, List, [], ◌∷◌, ◌++◌, map, refl, ◌∙◌, true, append_assoc, arith}
+use Rattle.std.specs.Prelude.{All, Option, Some, None, Contains, codes}
 use Rattle.std.specs.Fmt.{decimal}
 use Rattle.std.specs.List.{list_all}
 use Rattle.std.proofs.lemmas.List.Sums.{AllPass-from_list_all}
@@ -8,13 +8,13 @@ use Rattle.std.proofs.lemmas.List.Elements.{All-append, All-weaker}
 use Rattle.std.proofs.lemmas.Bool.{ltb-true}
 use Rattle.dg_model.specs.declared.shapes.Shape.{Shape}
 use Rattle.dg_model.specs.declared.events.Event.{Event}
-use Rattle.dg_model.specs.declared.events.Event.TheVariants.{Array, Write, Read, Fail, Replace, Rebuild, Settle, Tend, Diffuse, Who, Pending, Cat, Ls, Tree, Home, Save, Audit, Regroup, LostFiles, DropDisk, MendDisk}
+use Rattle.dg_model.specs.declared.events.Event.TheVariants.{Array, Safe, Write, Read, Fail, Replace, Rebuild, Settle, Tend, Diffuse, Who, Pending, Cat, Ls, Tree, Home, Save, Audit, Regroup, LostFiles, DropDisk, MendDisk}
 use Rattle.dg_text.specs.Lines.{AreBytes, hex_word, path_word, shape_words, spelling, line_of, IsInPlace}
 use Rattle.dg_text.proofs.Cuts.{Lacks, Lacks-from_not, first_cut}
-use Rattle.dg_text.proofs.Numbers.{decimal_lacks}
+use Rattle.dg_text.proofs.LineWords.{joined as all_joined, joined_lacks}
+use Rattle.dg_text.proofs.Numbers.{IsSmall, decimal_lacks, numbers_lack, shape_numbers, shape_small}
 use Rattle.dg_text.proofs.HexWords.{IsLowerDigit, encode_is_lower}
 use Rattle.dg_text.proofs.PathWords.{path_word_high}
-use Rattle.dg_text.proofs.Lengths.{block_small}
 
 -- a fixed text without control characters
 plain : (s : List ℕ) → list_all (λ x. ltb 10 x) s ≡ true → Lacks 10 s
@@ -43,16 +43,12 @@ hex_lacks (x ∷ xs) are =
 path_lacks : (path : List ℕ) → AreBytes path → Lacks 10 (path_word path)
 path_lacks path are = All-weaker (λ x. 33 ≤ x) (λ x. x ≢ 10) (λ x high e. omega arith) (path_word path) (path_word_high path are)
 
+all_lack : (ns : List ℕ) → All IsSmall ns → Lacks 10 (all_joined (map decimal ns))
+all_lack ns small = joined_lacks 10 (map decimal ns) (λ e. omega arith) (numbers_lack 10 ns (omega arith) small)
+
 pub spelling_lacks : (shape : Option Shape) (event : Event) → IsInPlace shape event → Lacks 10 (spelling event)
-spelling_lacks None (Array s) h =
-    let l = number s.l (block_small s.l h.block) in
-    let n = number s.n (omega arith) in
-    let b = number s.b (omega arith) in
-    let k = number s.k (omega arith) in
-    let m = number s.m (omega arith) in
-    joined (codes "array ") (shape_words s) (plain (codes "array ") refl)
-    (joined (decimal s.l) _ l (joined (codes " ") _ space (joined (decimal s.n) _ n (joined (codes " ") _ space
-    (joined (decimal s.b) _ b (joined (codes " ") _ space (joined (decimal s.k) _ k (joined (codes " ") (decimal s.m) space m))))))))
+spelling_lacks None (Array s) h = joined (codes "array ") (shape_words s) (plain (codes "array ") refl) (all_lack (shape_numbers s) (shape_small s h))
+spelling_lacks None (Safe s) h = joined (codes "safe ") (shape_words s) (plain (codes "safe ") refl) (all_lack (shape_numbers s) (shape_small s h))
 spelling_lacks (Some shape) (Write b bytes) h =
     joined (codes "write ") _ (plain (codes "write ") refl)
     (joined (decimal b) _ (number b h.0) (joined (codes " ") (hex_word bytes) space (hex_lacks bytes h.2)))

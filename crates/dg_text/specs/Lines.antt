@@ -8,7 +8,7 @@ use Rattle.hex.specs.Hex.{encode_lower}
 use Rattle.dg_model.specs.Shapes.{IsShape}
 use Rattle.dg_model.specs.declared.shapes.Shape.{Shape}
 use Rattle.dg_model.specs.declared.events.Event.{Event}
-use Rattle.dg_model.specs.declared.events.Event.TheVariants.{Array, Write, Read, Fail, Replace, Rebuild, Settle, Tend, Diffuse, Who, Pending, Cat, Ls, Tree, Home, Save, Audit, Regroup, LostFiles, DropDisk, MendDisk}
+use Rattle.dg_model.specs.declared.events.Event.TheVariants.{Array, Safe, Write, Read, Fail, Replace, Rebuild, Settle, Tend, Diffuse, Who, Pending, Cat, Ls, Tree, Home, Save, Audit, Regroup, LostFiles, DropDisk, MendDisk}
 use Rattle.ufs_model.specs.Paths.{is_path}
 
 -- bytes as a word
@@ -32,9 +32,10 @@ path_word path = flat_map spelled_byte path
 abbrev pub shape_words : Shape → List ℕ
 shape_words s = decimal s.l ++ (codes " " ++ (decimal s.n ++ (codes " " ++ (decimal s.b ++ (codes " " ++ (decimal s.k ++ (codes " " ++ decimal s.m)))))))
 
--- the one spelling of an event. No line spells `Safe` and `Parity`
+-- the one spelling of an event. No line spells `Parity`
 abbrev pub spelling : Event → List ℕ
 spelling (Array s) = codes "array " ++ shape_words s
+spelling (Safe s) = codes "safe " ++ shape_words s
 spelling (Write b bytes) = codes "write " ++ (decimal b ++ (codes " " ++ hex_word bytes))
 spelling (Read b) = codes "read " ++ decimal b
 spelling (Fail s j) = codes "fail " ++ (decimal s ++ (codes " " ++ decimal j))
@@ -72,8 +73,8 @@ AreBytes bytes = All (λ x. x < 256) bytes
 -- the events that may stand first, or after an array of this shape. One that no line spells stands nowhere
 abbrev pub IsInPlace : Option Shape → Event → Type 0
 IsInPlace None (Array s) = IsShape s
+IsInPlace None (Safe s) = IsShape s
 IsInPlace None event = ⊥
-IsInPlace (Some shape) (Array s) = ⊥
 IsInPlace (Some shape) (Write b bytes) = (b < 2 ^ 32) × (length bytes ≤ shape.l) × AreBytes bytes
 IsInPlace (Some shape) (Read b) = b < 2 ^ 32
 IsInPlace (Some shape) (Fail s j) = (s < 2 ^ 32) × (j < 2 ^ 32)
@@ -96,11 +97,16 @@ IsInPlace (Some shape) (DropDisk s j) = (s < 2 ^ 32) × (j < 2 ^ 32)
 IsInPlace (Some shape) (MendDisk s j) = (s < 2 ^ 32) × (j < 2 ^ 32)
 IsInPlace (Some shape) event = ⊥
 
+-- the shape of the array that an event makes, if it makes one
+abbrev pub shape_made : Event → Option Shape
+shape_made (Array s) = Some s
+shape_made (Safe s) = Some s
+shape_made event = None
+
 -- the events of an input are in their places: the first makes an array, and the others follow it
 abbrev pub AreInPlace : List Event → Type 0
 AreInPlace [] = Unit {0}
-AreInPlace (Array s ∷ events) = IsShape s × All (IsInPlace (Some s)) events
-AreInPlace (event ∷ events) = ⊥
+AreInPlace (first ∷ events) = IsInPlace None first × All (IsInPlace (shape_made first)) events
 
 -- the bytes of a block; before the array it counts as 512
 abbrev pub block_bytes : Option Shape → ℕ

@@ -1,6 +1,6 @@
 -- How a line is read where it stands: as the event that it spells there, or as refused by the first kind that fits. The
 -- kinds and their order are this project's own.
-use Rattle.std.specs.Prelude.{◌≡◌, ◌≢◌, ◌⊎◌, ◌≤◌, ◌<◌, ◌+◌, ◌^◌, ◌==◌, if◌then◌else◌, true, ℕ, List, [], ◌∷◌, length, take, drop, codes, Option, Some, None, Result, Ok, Err, All, Contains}
+use Rattle.std.specs.Prelude.{◌≡◌, ◌≢◌, ◌⊎◌, ◌≤◌, ◌<◌, ◌+◌, ◌^◌, ◌==◌, if◌then◌else◌, Bool, true, false, ℕ, List, [], ◌∷◌, length, map, take, drop, codes, Option, Some, None, Result, Ok, Err, All, Contains}
 use Rattle.std.specs.Fmt.{decimal}
 use Rattle.dg_model.specs.Shapes.{KeepsLimits}
 use Rattle.dg_model.specs.declared.shapes.Shape.{Shape}
@@ -8,7 +8,7 @@ use Rattle.dg_model.specs.declared.events.Event.{Event}
 use Rattle.ufs_model.specs.Paths.{is_path}
 use Rattle.dg_text.specs.Lines.{AreBytes, hex_word, path_word, spelling, block_bytes, IsInPlace}
 use Rattle.dg_text.specs.declared.kinds.EventKind.{EventKind}
-use Rattle.dg_text.specs.declared.kinds.EventKind.TheVariants.{Array, Write, Read, Fail, Replace, Rebuild, Settle, Tend, Diffuse, Who, Pending, Cat, Ls, Tree, Home, Save, Audit, Regroup, LostFiles, Drop, Mend}
+use Rattle.dg_text.specs.declared.kinds.EventKind.TheVariants.{Array, Safe, Write, Read, Fail, Replace, Rebuild, Settle, Tend, Diffuse, Who, Pending, Cat, Ls, Tree, Home, Save, Audit, Regroup, LostFiles, Drop, Mend}
 use Rattle.dg_text.specs.declared.kinds.Tail.{Tail}
 use Rattle.dg_text.specs.declared.kinds.Tail.TheVariants.{Nothing, Bytes, Path as PathTail}
 use Rattle.dg_text.specs.declared.lines.BadLine.{BadLine}
@@ -43,6 +43,7 @@ IsPathWord word = (path : List ℕ) × (is_path path ≡ true) × AreBytes path 
 -- the first word
 abbrev pub word_of : EventKind → List ℕ
 word_of Array = codes "array"
+word_of Safe = codes "safe"
 word_of Write = codes "write"
 word_of Read = codes "read"
 word_of Fail = codes "fail"
@@ -67,6 +68,7 @@ word_of Mend = codes "mend"
 -- how many numbers stand behind it
 abbrev pub numbers_of : EventKind → ℕ
 numbers_of Array = 5
+numbers_of Safe = 5
 numbers_of Write = 1
 numbers_of Read = 1
 numbers_of Fail = 2
@@ -91,6 +93,7 @@ numbers_of Mend = 2
 -- what stands behind the numbers
 abbrev pub tail_of : EventKind → Tail
 tail_of Array = Nothing
+tail_of Safe = Nothing
 tail_of Write = Bytes
 tail_of Read = Nothing
 tail_of Fail = Nothing
@@ -122,6 +125,18 @@ tail_count PathTail = 1
 abbrev pub count_of : EventKind → ℕ
 count_of kind = numbers_of kind + tail_count (tail_of kind)
 
+-- whether it makes an array
+abbrev pub makes_array : EventKind → Bool
+makes_array Array = true
+makes_array Safe = true
+makes_array other = false
+
+-- The numbers behind it are within their limits. Only those of an array have limits beyond that of each number
+abbrev pub AreWithinLimits : EventKind → List ℕ → Type 0
+AreWithinLimits Array (l ∷ n ∷ b ∷ k ∷ m ∷ []) = KeepsLimits l n b k m
+AreWithinLimits Safe (l ∷ n ∷ b ∷ k ∷ m ∷ []) = KeepsLimits l n b k m
+AreWithinLimits kind numbers = Unit {0}
+
 -- ---- the kinds of refusals
 
 -- the first word of a line is an event's, and these words stand behind it
@@ -130,31 +145,27 @@ pub record Begins (line : List ℕ) : Type 0 where
   pub later : List (List ℕ)
   pub split : words line ≡ word_of kind ∷ later
 
--- such an event may not stand there: an array comes first, and no other event does
+-- such an event may not stand there: one that makes an array comes first, and no other does
 abbrev pub IsOutOfOrder : Option Shape → EventKind → Type 0
-IsOutOfOrder None kind = kind ≢ Array
-IsOutOfOrder (Some shape) kind = kind ≡ Array
+IsOutOfOrder None kind = makes_array kind ≡ false
+IsOutOfOrder (Some shape) kind = makes_array kind ≡ true
 
--- the numbers of an array, of which a limit is broken
-pub record BreaksLimits (later : List (List ℕ)) : Type 0 where
-  pub l : ℕ
-  pub n : ℕ
-  pub b : ℕ
-  pub k : ℕ
-  pub m : ℕ
-  pub small : (l < 2 ^ 32) × (n < 2 ^ 32) × (b < 2 ^ 32) × (k < 2 ^ 32) × (m < 2 ^ 32)
-  pub spelled : later ≡ decimal l ∷ decimal n ∷ decimal b ∷ decimal k ∷ decimal m ∷ []
-  pub broken : KeepsLimits l n b k m → ⊥
+-- some words spell numbers, which break a limit behind the first word of an event of this kind
+pub record BreaksLimits (kind : EventKind) (later : List (List ℕ)) : Type 0 where
+  pub numbers : List ℕ
+  pub small : All (λ n. n < 2 ^ 32) numbers
+  pub spelled : later ≡ map decimal numbers
+  pub broken : AreWithinLimits kind numbers → ⊥
 
 -- the lines that each kind fits: `word` those of no event; `order` those of an event that may not stand there; `form` those with
--- another number of words, or an empty word; `number` those in which a number isn't spelled, or 2^32 or more; `limits` those of an array
--- that breaks a limit; `hex` and `path` those whose bytes or path aren't spelled. The other kinds fit by what stands around the line
+-- another number of words, or an empty word; `number` those in which a number isn't spelled, or 2^32 or more; `limits` those whose numbers
+-- break a limit; `hex` and `path` those whose bytes or path aren't spelled. The other kinds fit by what stands around the line
 abbrev pub Fits : Option Shape → List ℕ → BadLine → Type 0
 Fits shape line Word = Begins line → ⊥
 Fits shape line Order = (b : Begins line) × IsOutOfOrder shape b.kind
 Fits shape line Form = (b : Begins line) × ((length b.later ≢ count_of b.kind) ⊎ Contains b.later [])
 Fits shape line Number = (b : Begins line) × (All IsNumberWord (take (numbers_of b.kind) b.later) → ⊥)
-Fits shape line Limits = (b : Begins line) × (b.kind ≡ Array) × BreaksLimits b.later
+Fits shape line Limits = (b : Begins line) × BreaksLimits b.kind b.later
 Fits shape line Hex = (b : Begins line) × (tail_of b.kind ≡ Bytes) × (All (IsHexWord (block_bytes shape)) (drop (numbers_of b.kind) b.later) → ⊥)
 Fits shape line Path = (b : Begins line) × (tail_of b.kind ≡ PathTail) × (All IsPathWord (drop (numbers_of b.kind) b.later) → ⊥)
 Fits shape line other = ⊥

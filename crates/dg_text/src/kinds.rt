@@ -1,12 +1,14 @@
 // The table of events: the first word of a line, and what stands behind it.
 ghost use Rattle.std.specs.Prelude.{◌≡◌, IfSome};
-ghost use Rattle.dg_text.specs.Refusals.{count_of, numbers_of, tail_of, word_of};
+ghost use Rattle.dg_text.specs.Refusals.{count_of, makes_array, numbers_of, tail_of, word_of};
 
 /// Which event a line is of, by its first word.
 #[derive(Clone, Copy, Debug, PartialEq, Eq)]
 pub enum EventKind {
     /// `array L N B K m`
     Array,
+    /// `safe L N B K m`
+    Safe,
     /// `write b HEX`
     Write,
     /// `read b`
@@ -67,6 +69,7 @@ pub fn kind_with(word: &[u8]) -> Option<EventKind>
 {
     match word {
         b"array" => Some(EventKind::Array),
+        b"safe" => Some(EventKind::Safe),
         b"write" => Some(EventKind::Write),
         b"read" => Some(EventKind::Read),
         b"fail" => Some(EventKind::Fail),
@@ -98,6 +101,7 @@ impl EventKind {
     {
         match self {
             EventKind::Array => b"array",
+            EventKind::Safe => b"safe",
             EventKind::Write => b"write",
             EventKind::Read => b"read",
             EventKind::Fail => b"fail",
@@ -126,7 +130,7 @@ impl EventKind {
         ensures { result ≡ numbers_of self }
     {
         match self {
-            EventKind::Array => 5,
+            EventKind::Array | EventKind::Safe => 5,
             EventKind::Fail
             | EventKind::Replace
             | EventKind::Rebuild
@@ -155,6 +159,7 @@ impl EventKind {
             EventKind::Write => Tail::Bytes,
             EventKind::Cat | EventKind::Ls | EventKind::Home => Tail::Path,
             EventKind::Array
+            | EventKind::Safe
             | EventKind::Read
             | EventKind::Fail
             | EventKind::Replace
@@ -171,6 +176,16 @@ impl EventKind {
             | EventKind::LostFiles
             | EventKind::Drop
             | EventKind::Mend => Tail::Nothing,
+        }
+    }
+
+    /// Whether it makes an array, and so comes first.
+    pub fn makes_array(self) -> bool
+        ensures { result ≡ makes_array self }
+    {
+        match self {
+            EventKind::Array | EventKind::Safe => true,
+            _ => false,
         }
     }
 

@@ -27,7 +27,7 @@ pub enum BadLine {
     Cut,
     /// Its first word is that of no event.
     Word,
-    /// It is no `array` and comes before the array, or is one and comes behind it.
+    /// It makes no array and comes first, or makes one and comes later.
     Order,
     /// It has more or fewer words than the event, or an empty word.
     Form,
@@ -92,15 +92,14 @@ fn event_of(alloc: Global, line: &[u8], shape: Option<&Shape>) -> Result<Option<
     }
 }
 
-// The event that makes the array, if the first word is that of such an event and the text behind it and a space spells a
-// shape.
+// The event that makes the array and that the text behind its first word and a space spells, if there is one.
 fn first_event(kind: EventKind, rest: Option<&[u8]>) -> Option<Event>
-    ensures found { IfSome result (λ event. IsInPlace None event × MatchOption rest.entry ⊥ (λ text. word_of kind ++ 32 ∷ text.now ≡ spelling event)) }
-    ensures none { IfNone result ((s : Shape) → IsShape s → kind ≡ EventKind.Array → IfSome rest.entry (λ text. text.now ≡ shape_words s → ⊥)) }
+    ensures { MatchOption rest.entry (result ≡ None) (λ text. IsEventWith None kind text.now result) }
 {
     let text = rest?;
     match kind {
         EventKind::Array => shape_of(text).map(Event::Array),
+        EventKind::Safe => shape_of(text).map(Event::Safe),
         _ => None,
     }
 }
@@ -144,7 +143,7 @@ fn event_with(
     text: &[u8],
     shape: &Shape,
 ) -> Result<Option<Event>, NoMemory>
-    ensures { IfOk result (IsEventWith shape.now kind text.now) }
+    ensures { IfOk result (IsEventWith (Some shape.now) kind text.now) }
 {
     match kind {
         EventKind::Write => write_of(alloc, text, shape),
@@ -165,7 +164,7 @@ fn event_with(
 
 // The write that the text behind `write ` spells.
 fn write_of(alloc: Global, text: &[u8], shape: &Shape) -> Result<Option<Event>, NoMemory>
-    ensures { IfOk result (IsEventWith shape.now EventKind.Write text.now) }
+    ensures { IfOk result (IsEventWith (Some shape.now) EventKind.Write text.now) }
 {
     let Some((block, word)) = number_before_space(text) else {
         return Ok(None);
@@ -191,8 +190,8 @@ fn is_out_of_order(kind: EventKind, shape: Option<&Shape>) -> bool
     ensures { IsTrue result ↔ IsOutOfOrder (option_copied shape.entry) kind }
 {
     match shape {
-        None => kind != EventKind::Array,
-        Some(_) => kind == EventKind::Array,
+        None => !kind.makes_array(),
+        Some(_) => kind.makes_array(),
     }
 }
 

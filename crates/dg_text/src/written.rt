@@ -29,7 +29,7 @@ fn is_spelled(event: &Event) -> bool
     ensures { result ≡ is_spelled event.now }
 {
     match event {
-        Event::Safe(_) | Event::Parity(_, _) => false,
+        Event::Parity(_, _) => false,
         _ => true,
     }
 }
@@ -40,6 +40,7 @@ fn kind_of(event: &Event) -> EventKind
 {
     match event {
         Event::Array(_) => EventKind::Array,
+        Event::Safe(_) => EventKind::Safe,
         Event::Write(_, _) => EventKind::Write,
         Event::Read(_) => EventKind::Read,
         Event::Fail(_, _) => EventKind::Fail,
@@ -69,6 +70,7 @@ fn push_rest(line: &mut Vec<u8>, event: &Event) -> Result<(), NoMemory>
 {
     match event {
         Event::Array(shape) => push_shape(line, shape),
+        Event::Safe(shape) => push_shape(line, shape),
         Event::Write(b, bytes) => push_write(line, *b, bytes.as_slice()),
         Event::Read(b) => push_number(line, *b),
         Event::Fail(s, j) => push_numbers(line, *s, *j),

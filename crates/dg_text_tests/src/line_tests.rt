@@ -23,7 +23,9 @@ fn is_written_back(alloc: Global, line: &str, shape: Option<&Shape>) -> Result<b
 #[test]
 fn each_event_is_written_back(rt: HostRuntime) -> Result<(), Fail> {
     let alloc = rt.alloc();
-    assert!(rt; is_written_back(alloc, "array 1024 64 4 32 2", None)?);
+    for line in ["array 1024 64 4 32 2", "safe 1024 64 4 32 2"] {
+        assert!(rt; is_written_back(alloc, line, None)?, "{line}");
+    }
     let lines = [
         "write 3 6869",
         "write 5 -",
@@ -73,7 +75,7 @@ fn events_of_disks_and_boundaries_are_spelled(rt: HostRuntime) -> Result<(), Fai
             b"mend 15 4294967295"
         )?
     );
-    assert!(rt; is_written_as(alloc, &Event::Safe(SHAPE), b"")?);
+    assert!(rt; is_written_as(alloc, &Event::Safe(SHAPE), b"safe 1024 64 4 32 2")?);
     assert!(rt; is_written_as(alloc, &Event::Parity(SHAPE, 4), b"")?);
     Ok(())
 }
@@ -105,6 +107,64 @@ fn fault_of(alloc: Global, line: &str, shape: Option<&Shape>) -> Result<Option<B
         Ok(_) => Ok(None),
         Err(kind) => Ok(Some(kind)),
     }
+}
+
+// Whether a line makes an array of this shape that keeps what was saved last.
+fn is_read_as_safe(alloc: Global, line: &str) -> Result<bool, NoMemory> {
+    match read_line(alloc, line.as_bytes(), None)? {
+        Ok(Event::Safe(shape)) => Ok(shape == SHAPE),
+        _ => Ok(false),
+    }
+}
+
+#[test]
+fn lines_that_make_an_array_are_read(rt: HostRuntime) -> Result<(), Fail> {
+    let alloc = rt.alloc();
+    assert!(rt; is_read_as_safe(alloc, "safe 1024 64 4 32 2")?);
+    Ok(())
+}
+
+#[test]
+fn other_first_lines_are_refused(rt: HostRuntime) -> Result<(), Fail> {
+    let alloc = rt.alloc();
+    let forms = [
+        "safe",
+        "safe 1024 64 4 32",
+        "safe 1024 64 4 32 2 3",
+        "safe 1024  64 4 32",
+    ];
+    for line in forms {
+        assert_eq!(rt; fault_of(alloc, line, None)?, Some(BadLine::Form), "{line}");
+    }
+    for line in ["safe 01024 64 4 32 2", "safe 1000 64 4 32 x"] {
+        assert_eq!(rt;
+            fault_of(alloc, line, None)?,
+            Some(BadLine::Number),
+            "{line}"
+        );
+    }
+    for line in [
+        "safe 1000 64 4 32 2",
+        "safe 1024 129 4 32 2",
+        "safe 1024 64 4 32 5",
+    ] {
+        assert_eq!(rt;
+            fault_of(alloc, line, None)?,
+            Some(BadLine::Limits),
+            "{line}"
+        );
+    }
+    for line in ["safe 1024 64 4 32 2", "safe x"] {
+        assert_eq!(rt;
+            fault_of(alloc, line, Some(&SHAPE))?,
+            Some(BadLine::Order),
+            "{line}"
+        );
+    }
+    for line in ["safer 1024 64 4 32 2", "Safe 1024 64 4 32 2"] {
+        assert_eq!(rt; fault_of(alloc, line, None)?, Some(BadLine::Word), "{line}");
+    }
+    Ok(())
 }
 
 #[test]

@@ -17,6 +17,9 @@ pub const MOST_BYTES: usize = 1 << 28;
 /// Bytes that are asked of the source at once.
 const PIECE: usize = 65536;
 
+/// Bytes for which room is taken at once.
+const ROOM: usize = 1 << 20;
+
 /// A buffer for what is read at once.
 fn new_piece(alloc: Global) -> Result<Vec<u8>, NoMemory>
     ensures { IfOk result (λ piece. length piece.items ≡ 65536) }
@@ -54,15 +57,15 @@ fn make_room(image: &mut Vec<u8>) -> Result<(), NoMemory>
     }
 }
 
-/// Takes room for more bytes of an image, where there is none yet: for as many as are read at once, or for a sixteenth of those that are there, whichever is
-/// more. So grows an image whose superblock doesn't tell its length; the vector by itself would take room for twice its bytes.
+/// Takes room for more bytes of an image, where there is none yet, always for as many. So grows an image whose superblock doesn't tell its length; the
+/// vector by itself would take room for twice its bytes.
 fn have_room(image: &mut Vec<u8>, more: usize) -> Result<(), NoMemory>
     ensures { OnOk result (image.new.items ≡ image.old.items) }
 {
     if more <= image.capacity().saturating_sub(image.len()) {
         return Ok(());
     }
-    match image.reserve_exact(PIECE.max(image.len() / 16)) {
+    match image.reserve_exact(ROOM) {
         Ok(()) => Ok(()),
         Err(_) => Err(NoMemory),
     }

@@ -45,8 +45,8 @@ run_replies before blank x [] is run = absurd run
 run_replies before blank x (reply ∷ []) is run = ap (λ (z : Reply). z ∷ []) (blank_reply shape_here before blank run.0 reply refl refl is run.1)
 run_replies before blank x (reply ∷ other ∷ replies) is run = absurd run.2
 
-audit_replies : (tells : ℕ → Type 0) → AreReplies tells shape_here (Audit ∷ []) no_volume_told
-audit_replies tells replies run =
+audit_replies : (steady : Type 0) (tells : ℕ → Type 0) → AreReplies steady tells shape_here (Audit ∷ []) no_volume_told
+audit_replies steady tells replies run =
     let known = history_traces (TellsBoundaries tells run.ran.final.state) run.before (Array shape_here ∷ Audit ∷ []) replies run.ran.final run.ran.history in
     let trace = trace_told known.0 shape_here (Audit ∷ []) replies run.ran.final.state run.told known.1 in
     let t = trace_more AreTold known.0 shape_here (Audit ∷ []) replies run.ran.final.state trace in
@@ -55,4 +55,4 @@ audit_replies tells replies run =
 pub prints_no_volume : OneInput → (end : Replay) → HasReplayed (codes "array 1024 64 4 32 2\naudit\n") end → NeverFailed end
     → taken_in end.sink ≡ codes "ok\nbad magic 0\nend 1\n"
 prints_no_volume one end did never =
-    prints one shape_here (Audit ∷ []) no_volume_told audit_placed (codes "array 1024 64 4 32 2\naudit\n") audit_text end (audit_replies (told_in end.rack)) did never ∙ audit_output
+    prints one shape_here (Audit ∷ []) no_volume_told audit_placed (codes "array 1024 64 4 32 2\naudit\n") audit_text end (audit_replies (Unit {0}) (told_in end.rack)) did never ∙ audit_output

@@ -8,13 +8,14 @@ use Rattle.dg_model.specs.Openings.{Found, HasOwnLabel}
 use Rattle.dg_model.specs.Saves.{Label, label_bytes}
 use Rattle.dg_open.specs.Founds.{AreRead, IsRead}
 use Rattle.dg_run.specs.Completes.{IsUnopened}
-use Rattle.dg_run.specs.Ends.{EndsSaved, EndsTrace}
+use Rattle.dg_run.specs.Ends.{EndsSaved, EndsTrace, FindsStatus}
 use Rattle.dg_run.specs.declared.top.Status.{Status}
 use Rattle.dg_run.specs.declared.top.Status.TheVariants.{Done, NoMemory, NoState, Refused}
 use Rattle.dg_saved.specs.Calls.{Facts}
 use Rattle.dg_saved.specs.Ends.{EndsStatus}
 use Rattle.dg_saved.specs.Saved.{FoundUnclean, HasShown, had}
 use Rattle.dg_saved.specs.Texts.{nostate_text}
+use Rattle.dg_uses.proofs.Headers.{none_there, saved_plain}
 use Rattle.dg_trace.specs.Answers.{IsInSize, IsRefused, refusal_text}
 use Rattle.dg_trace.specs.Calls as traces
 use Rattle.dg_trace.specs.Images.{GaveImage}
@@ -138,21 +139,26 @@ module _ (facts : Facts) (blank : AreBlank facts) where
       none_at facts.bytes facts.before.faults facts.now.faults looked.taken looked.read
       (λ q. same_none (facts.images q) (facts.bytes q) (blank.empty q) (blank.told q) (looked.same q)) found.unclean.q _ found.unclean.newest.there
 
+  -- no member has a header
+  ends_plain : (tells : ℕ → Type 0) (taken given : Option (List ℕ)) (status : Status) → EndsSaved (FindsStatus tells facts) taken given status
+      → EndsSaved (EndsStatus tells facts) taken given status
+  ends_plain tells = saved_plain facts blank.told (λ q low. none_there q (facts.images q) (blank.empty q)) tells EndsStatus
+
 -- so there is no array
-pub blank_answer : (tells : ℕ → Type 0) (facts : Facts) (taken given : Option (List ℕ)) (status : Status) → AreBlank facts → EndsSaved (EndsStatus tells facts) taken given status
+pub blank_answer : (tells : ℕ → Type 0) (facts : Facts) (taken given : Option (List ℕ)) (status : Status) → AreBlank facts → EndsSaved (FindsStatus tells facts) taken given status
     → (status ≡ Done) ⊎ (IsUnopened status ⊎ (status ≡ NoMemory)) → (status ≡ NoState) ⊎ (status ≡ NoMemory)
 blank_answer tells facts taken given status blank ends (inl done) =
-    let shown = subst (λ (s : Status). EndsSaved (EndsStatus tells facts) taken given s) done ends in
+    let shown = subst (λ (s : Status). EndsSaved (EndsStatus tells facts) taken given s) done (ends_plain facts blank tells taken given status ends) in
     absurd (no_source facts blank tells shown.0 shown.1)
 blank_answer tells facts taken given status blank ends (inr (inl (inl none))) = inl none
 blank_answer tells facts taken given status blank ends (inr (inl (inr unclean))) =
-    let found = subst (λ (s : Status). EndsSaved (EndsStatus tells facts) taken given s) unclean ends in
+    let found = subst (λ (s : Status). EndsSaved (EndsStatus tells facts) taken given s) unclean (ends_plain facts blank tells taken given status ends) in
     absurd (not_unclean facts blank found.0)
 blank_answer tells facts taken given status blank ends (inr (inr memory)) = inr memory
 
 -- and this is printed, where the sink tells its bytes
-pub no_state_printed : (tells : ℕ → Type 0) (facts : Facts) (status : Status) (printed : List ℕ) → facts.taken ≡ Some [] → status ≡ NoState
-    → EndsSaved (EndsStatus tells facts) facts.taken facts.given status → facts.given ≡ Some printed → printed ≡ codes "nostate\n"
-no_state_printed tells facts status printed empty none ends is =
-    let found = subst (λ (s : Status). EndsSaved (EndsStatus tells facts) facts.taken facts.given s) none ends in
+pub no_state_printed : (tells : ℕ → Type 0) (facts : Facts) (status : Status) (printed : List ℕ) → AreBlank facts → facts.taken ≡ Some [] → status ≡ NoState
+    → EndsSaved (FindsStatus tells facts) facts.taken facts.given status → facts.given ≡ Some printed → printed ≡ codes "nostate\n"
+no_state_printed tells facts status printed blank empty none ends is =
+    let found = subst (λ (s : Status). EndsSaved (EndsStatus tells facts) facts.taken facts.given s) none (ends_plain facts blank tells facts.taken facts.given status ends) in
     took facts.given nostate_text printed (subst (λ (t : Option (List ℕ)). Told (Took nostate_text) t facts.given) empty found.1) is

@@ -34,5 +34,5 @@ prints_broken one end did never all =
     broke.output
     ∙ ap output_of
     (replied shape_here written (answers shape_here (λ q. false) (λ b. []) written) end did.before did.images broke.events broke.replies same broke.ran did.fresh
-    (λ replies run. ran_answers (told_in end.rack) shape_here written replies tt run) never)
+    (λ replies run. ran_answers (Unit {0}) (told_in end.rack) shape_here written replies tt run) never)
     ∙ written_output

@@ -24,5 +24,5 @@ met source source_now sink sink_now old new = record {
   given = Some (taken_in sink_now);
 }
 
-pub ended : (tells : ℕ → Type 0) (f : Facts) (status other : Status) → EndsReplay tells f status → status ≡ other → EndsReplay tells f other
-ended tells f status other ends is = subst (λ (s : Status). EndsReplay tells f s) is ends
+pub ended : (steady : Type 0) (tells : ℕ → Type 0) (f : Facts) (status other : Status) → EndsReplay steady tells f status → status ≡ other → EndsReplay steady tells f other
+ended steady tells f status other ends is = subst (λ (s : Status). EndsReplay steady tells f s) is ends

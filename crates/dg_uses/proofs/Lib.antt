@@ -1,9 +1,11 @@
 mod AuditRows
 mod AuditedLaws
 mod BlankAudits
+mod BlankPromises
 mod BlankRows
 mod BrokenRows
 pub mod Chains
+mod Checkpoints
 pub mod Cores
 mod CutLines
 mod DrilledLaws
@@ -11,6 +13,7 @@ mod Ended
 mod FarReads
 mod FewCalls
 mod Flat
+mod Headers
 mod Held
 pub mod InUse
 mod Lines
@@ -31,7 +34,9 @@ mod OneRun
 mod OneStep
 mod OneVerdict
 pub mod OneView
+mod OpenedShapes
 mod OtherMembers
+mod OtherSlots
 mod PastReads
 mod Promised
 mod Quiet
@@ -43,10 +48,12 @@ mod Results
 mod ResumedAgain
 mod ResumedPromises
 mod Rows
+mod SafeRows
 mod SameLines
 mod SavedAgain
 mod SavedReads
 mod Seated
+mod Seeing
 mod Seen
 pub mod StepViews
 mod TakenAway

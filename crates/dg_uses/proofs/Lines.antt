@@ -21,28 +21,28 @@ abbrev pub OneInput : Type 0
 OneInput = (events others : List Event) → AreInPlace events → AreInPlace others → input_of events ≡ input_of others → events ≡ others
 
 -- of events behind an array of this shape these are the replies, where the run is smooth
-abbrev pub AreReplies : (ℕ → Type 0) → Shape → List Event → List Reply → Type 0
-AreReplies tells shape events promised = (replies : List Reply) → RanSmoothly tells (Array shape ∷ events) replies → replies ≡ Done ∷ promised
+abbrev pub AreReplies : Type 0 → (ℕ → Type 0) → Shape → List Event → List Reply → Type 0
+AreReplies steady tells shape events promised = (replies : List Reply) → RanSmoothly steady tells (Array shape ∷ events) replies → replies ≡ Done ∷ promised
 
 pub none_from : (before now : Counts) → AreNone before → NoneRose (λ q. 0) now.faults → NoneRose before.faults now.faults
 none_from before now fresh none = subst (λ (f : ℕ → ℕ). NoneRose f now.faults) (λ i q. sym (fresh.faults q) i) none
 
 -- so it is of a run of these events over a new rack, none of whose calls failed
 pub replied : (shape : Shape) (events : List Event) (promised : List Reply) (end : Replay) (before : Counts) (images : ℕ → Option (List ℕ)) (done : List Event)
-    (replies : List Reply) → done ≡ Array shape ∷ events → Ran before (counts_in end.rack) images (member_in end.rack) (told_in end.rack) done replies → AreNone before
-    → AreReplies (told_in end.rack) shape events promised → NeverFailed end → replies ≡ Done ∷ promised
+    (replies : List Reply) → done ≡ Array shape ∷ events → Ran before (counts_in end.rack) images (member_in end.rack) (Unit {0}) (told_in end.rack) done replies → AreNone before
+    → AreReplies (Unit {0}) (told_in end.rack) shape events promised → NeverFailed end → replies ≡ Done ∷ promised
 replied shape events promised end before images done replies same ran fresh are never = are replies (record {
   before = before;
   now = counts_in end.rack;
   images = images;
   bytes = member_in end.rack;
-  ran = subst (λ (es : List Event). Ran before (counts_in end.rack) images (member_in end.rack) (told_in end.rack) es replies) same ran;
+  ran = subst (λ (es : List Event). Ran before (counts_in end.rack) images (member_in end.rack) (Unit {0}) (told_in end.rack) es replies) same ran;
   told = λ q below. refl;
   none = none_from before (counts_in end.rack) fresh never;
 })
 
 pub prints : OneInput → (shape : Shape) (events : List Event) (promised : List Reply) → AreInPlace (Array shape ∷ events)
-    → (text : List ℕ) → text ≡ input_of (Array shape ∷ events) → (end : Replay) → AreReplies (told_in end.rack) shape events promised → HasReplayed text end → NeverFailed end
+    → (text : List ℕ) → text ≡ input_of (Array shape ∷ events) → (end : Replay) → AreReplies (Unit {0}) (told_in end.rack) shape events promised → HasReplayed text end → NeverFailed end
     → taken_in end.sink ≡ output_of (Done ∷ promised)
 prints one shape events promised places text spelled end are did never =
     let replayed = did.replayed in

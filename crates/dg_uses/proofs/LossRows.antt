@@ -120,5 +120,5 @@ pub prints_lost : OneInput → (end : Replay)
     → taken_in end.sink ≡ codes "ok\nok\nok\nok\nunavailable\ndegraded\n"
 prints_lost one end did never =
     prints one shape_here lost lost_replies lost_placed (codes "array 1024 64 4 32 2\nwrite 3 aa\nfail 3 0\nfail 3 1\nread 3\nwrite 2 00\n") lost_text
-    end (λ replies run. ran_views (told_in end.rack) shape_here lost replies lost_replies core_none run lost_views) did never
+    end (λ replies run. ran_views (Unit {0}) (told_in end.rack) shape_here lost replies lost_replies core_none run lost_views) did never
     ∙ lost_output

@@ -1,5 +1,5 @@
 -- Two histories of the same events from blank arrays of one shape, in which no count of faults rises and the bytes are told, have the same replies.
-use Rattle.std.proofs.Common.{◌≡◌, ◌≢◌, ◌∙◌, ◌<◌, ◌≤◌, ◌+◌, ◌/◌, ◌⊎◌, ℕ, true, false, List, [], ◌∷◌, length, refl, sym, ap, subst, inl, inr, arith}
+use Rattle.std.proofs.Common.{◌≡◌, ◌≢◌, ◌∙◌, ◌<◌, ◌≤◌, ◌+◌, ◌/◌, ℕ, true, false, List, [], ◌∷◌, length, refl, sym, ap, subst, inl, inr, arith}
 use Rattle.std.specs.Prelude.{All, Some, replicate}
 use Rattle.std.specs.List.Sorted.{IsStrictlyIncreasing}
 use Rattle.std.proofs.lemmas.Bool.{cases_lt, false≢true}
@@ -10,7 +10,7 @@ use Rattle.dg_model.specs.Causes.{NoneRose, Rose}
 use Rattle.dg_model.specs.Changes.{Stays}
 use Rattle.dg_model.specs.Lives.{all_live, member_at, place_in}
 use Rattle.dg_model.specs.Members.{ArePaired, is_filling, is_lost}
-use Rattle.dg_model.specs.Moments.{AreCountsOf, Happens, History, HistoryOf, IsAllowed, Makes, Moment}
+use Rattle.dg_model.specs.Moments.{AreCountsOf, Happens, History, HistoryOf, IsAllowed, Makes, Moment, TookLost}
 use Rattle.dg_model.specs.Moments.Kind.{plain}
 use Rattle.dg_model.specs.Seals.{next_sequence}
 use Rattle.dg_model.specs.Shapes.{IsShape}
@@ -30,7 +30,6 @@ use Rattle.dg_model.proofs.StepLaws.{StaysInUse, step_keeps}
 use Rattle.dg_promise.specs.Promises.{AreTold}
 use Rattle.dg_promise.specs.Steady.{FitsBlock, IsSteady}
 use Rattle.dg_text.specs.Lines.{IsInPlace}
-use Rattle.dg_uses.specs.Replays.{AllTookLost, TookLost, TookLostOf}
 use Rattle.dg_uses.proofs.Chains.{blank_at}
 use Rattle.dg_uses.proofs.NextNumbers.{IsServed, next_after, step_number}
 use Rattle.dg_uses.proofs.OneAudit.{audit_one}
@@ -162,70 +161,12 @@ save_allowed old reply new h = tt
 saves_allowed : (old : Moment) (event : Event) (reply : Reply) (new : Moment) → IsAllowed plain old event reply new → event ≡ Save → IsSavedWhole (seen_of old.state) reply
 saves_allowed old event reply new h is = save_allowed old reply new (subst (λ (e : Event). IsAllowed plain old e reply new) is h)
 
--- two steps of one event that took boundaries out of use took those that were lost
-abbrev pub BothTook : Moment → Moment → Moment → Moment → Event → Reply → Reply → Type 0
-BothTook old mid other point Regroup (Regrouped r d) (Regrouped s e) = TookLost old mid × TookLost other point
-BothTook old mid other point event r q = Unit {0}
-
--- the reply tells of no boundaries that were taken out of use
-abbrev pub IsNoRegroup : Reply → Type 0
-IsNoRegroup reply = (n d : ℕ) → reply ≢ Regrouped n d
-
 -- where no count rose each was lost before
 lost_before : (old new : Moment) → NoneRose old.beneath.counts.faults new.beneath.counts.faults → TookLost old new
     → (s : ℕ) → place_in old.state.live s < length old.state.live → (place_in new.state.live s < length new.state.live → ⊥) → is_lost old.state.members (place_in old.state.live s) ≡ true
 lost_before old new none took s here gone = elim (took s here gone) [ inl lost ↦ lost | inr rose ↦ absurd (none rose.0 rose.2) ]
 
-module _ (old mid other point : Moment) where
-  regroup_took : (r q : Reply) → TookLost old mid → TookLost other point → BothTook old mid other point Regroup r q
-  regroup_took (Regrouped r d) (Regrouped s e) a b = (a, b)
-  regroup_took (Regrouped r d) q a b = tt
-  regroup_took r q a b = tt
-
-  both_took : (event : Event) (r q : Reply) → TookLost old mid → TookLost other point → BothTook old mid other point event r q
-  both_took Regroup r q a b = regroup_took r q a b
-  both_took event r q a b = tt
-
-  none_told : (r q : Reply) → IsNoRegroup r → BothTook old mid other point Regroup r q
-  none_told (Regrouped r d) q none = absurd (none r d refl)
-  none_told r q none = tt
-
-  none_took : (event : Event) (r q : Reply) → IsNoRegroup r → BothTook old mid other point event r q
-  none_took Regroup r q none = none_told r q none
-  none_took event r q none = tt
-
-  none_asked : (event : Event) (r q : Reply) → event ≢ Regroup → BothTook old mid other point event r q
-  none_asked Regroup r q apart = absurd (apart refl)
-  none_asked event r q apart = tt
-
 -- ---- histories
-
-module _ (K L : Type 0) where
-  abbrev pub AllBothTook : (old other : Moment) (events : List Event) (r q : List Reply) (x y : Moment) → History K plain old events r x → History L plain other events q y → Type 0
-  AllBothTook old other (event ∷ events) (reply ∷ r) (answer ∷ q) x y h g = BothTook old h.0 other g.0 event reply answer × AllBothTook h.0 g.0 events r q x y h.2 g.2
-  AllBothTook old other events r q x y h g = Unit {0}
-
-  pub took_lost : (old other : Moment) (events : List Event) (r q : List Reply) (x y : Moment) (h : History K plain old events r x) (g : History L plain other events q y)
-      → AllTookLost K plain old events r x h → AllTookLost L plain other events q y g → AllBothTook old other events r q x y h g
-  took_lost old other (event ∷ events) (reply ∷ r) (answer ∷ q) x y h g a b =
-      (both_took old h.0 other g.0 event reply answer a.0 b.0, took_lost h.0 g.0 events r q x y h.2 g.2 a.1 b.1)
-  took_lost old other events r q x y h g a b = tt
-
-  pub took_none : (old other : Moment) (events : List Event) (r q : List Reply) (x y : Moment) (h : History K plain old events r x) (g : History L plain other events q y)
-      → All IsNoRegroup r → AllBothTook old other events r q x y h g
-  took_none old other (event ∷ events) (reply ∷ r) (answer ∷ q) x y h g none = (
-    none_took old h.0 other g.0 event reply answer (All-head IsNoRegroup reply r none),
-    took_none h.0 g.0 events r q x y h.2 g.2 (All-tail IsNoRegroup reply r none),
-  )
-  took_none old other events r q x y h g none = tt
-
-  pub took_unasked : (old other : Moment) (events : List Event) (r q : List Reply) (x y : Moment) (h : History K plain old events r x) (g : History L plain other events q y)
-      → All (λ event. event ≢ Regroup) events → AllBothTook old other events r q x y h g
-  took_unasked old other (event ∷ events) (reply ∷ r) (answer ∷ q) x y h g apart = (
-    none_asked old h.0 other g.0 event reply answer (All-head (λ event. event ≢ Regroup) event events apart),
-    took_unasked h.0 g.0 events r q x y h.2 g.2 (All-tail (λ event. event ≢ Regroup) event events apart),
-  )
-  took_unasked old other events r q x y h g apart = tt
 
 -- no count beneath falls
 history_rises : (K : Type 0) (old : Moment) (events : List Event) (replies : List Reply) (new : Moment) → History K plain old events replies new
@@ -316,43 +257,35 @@ module _ (law : StepsKeepSteady) (shape : Shape) (K L : Type 0) (known : K) (kno
         (subst (λ (n : ℕ). Step AreTold (quiet n other.state) event q (quiet n y.state)) size (quiet_told law shape L knows other event q y too v g))
 
     -- both took boundaries out of use
-    left_one : (r d s e : ℕ) → BothTook old x other y Regroup (Regrouped r d) (Regrouped s e) → Happens K plain old Regroup (Regrouped r d) x → Happens L plain other Regroup (Regrouped s e) y
+    left_one : (r d s e : ℕ) → Happens K plain old Regroup (Regrouped r d) x → Happens L plain other Regroup (Regrouped s e) y
         → AreOne (Regrouped r d) (Regrouped s e) x.state y.state
-    left_one r d s e took h g =
-        let one = is_left old.state r d x.state (told law shape K known old Regroup (Regrouped r d) x h).1 old.beneath.counts x.beneath.counts led.seated led.paired led.tied h.tied none led.ascend (lost_before old x none took.0) in
-        let two = is_left other.state s e y.state (told law shape L knows other Regroup (Regrouped s e) y g).1 other.beneath.counts y.beneath.counts too.seated too.paired too.tied g.tied never too.ascend (lost_before other y never took.1) in
+    left_one r d s e h g =
+        let one = is_left old.state r d x.state (told law shape K known old Regroup (Regrouped r d) x h).1 old.beneath.counts x.beneath.counts led.seated led.paired led.tied h.tied none led.ascend (lost_before old x none (h.took refl)) in
+        let two = is_left other.state s e y.state (told law shape L knows other Regroup (Regrouped s e) y g).1 other.beneath.counts y.beneath.counts too.seated too.paired too.tied g.tied never too.ascend (lost_before other y never (g.took refl)) in
         one_left (seen_of old.state) r d s e x.state y.state one (subst (λ (c : Seen). IsLeft c s e y.state) (sym same) two)
 
-    took_one : (r d : ℕ) (q : Reply) → BothTook old x other y Regroup (Regrouped r d) q → Happens K plain old Regroup (Regrouped r d) x → Happens L plain other Regroup q y
-        → AreOne (Regrouped r d) q x.state y.state
-    took_one r d (Regrouped s e) took h g = left_one r d s e took h g
-    took_one r d q took h g =
+    regroup_one : (r q : Reply) → Happens K plain old Regroup r x → Happens L plain other Regroup q y → AreOne r q x.state y.state
+    regroup_one (Regrouped r d) (Regrouped s e) h g = left_one r d s e h g
+    regroup_one (Regrouped r d) q h g =
         absurd (not_both law shape L knows other y old.state x.state r d too g.tied never (sym same) q tt (told law shape L knows other Regroup q y g) (told law shape K known old Regroup (Regrouped r d) x h))
+    regroup_one r (Regrouped s e) h g =
+        absurd (not_both law shape K known old x other.state y.state s e led h.tied none same r tt (told law shape K known old Regroup r x h) (told law shape L knows other Regroup (Regrouped s e) y g))
+    regroup_one r q h g = stay_one Regroup r q tt tt tt h g
 
-    stood_one : (r q : Reply) → StaysInUse Regroup r → Happens K plain old Regroup r x → Happens L plain other Regroup q y → AreOne r q x.state y.state
-    stood_one r (Regrouped s e) u h g =
-        absurd (not_both law shape K known old x other.state y.state s e led h.tied none same r u (told law shape K known old Regroup r x h) (told law shape L knows other Regroup (Regrouped s e) y g))
-    stood_one r q u h g = stay_one Regroup r q tt u tt h g
-
-    regroup_one : (r q : Reply) → BothTook old x other y Regroup r q → Happens K plain old Regroup r x → Happens L plain other Regroup q y → AreOne r q x.state y.state
-    regroup_one (Regrouped r d) q took h g = took_one r d q took h g
-    regroup_one r q took h g = stood_one r q tt h g
-
-    happens_one : (event : Event) (r q : Reply) → IsInPlace (Some shape) event → BothTook old x other y event r q → Happens K plain old event r x → Happens L plain other event q y
-        → AreOne r q x.state y.state
-    happens_one Regroup r q place took h g = regroup_one r q took h g
-    happens_one event r q place took h g = stay_one event r q place tt tt h g
+    happens_one : (event : Event) (r q : Reply) → IsInPlace (Some shape) event → Happens K plain old event r x → Happens L plain other event q y → AreOne r q x.state y.state
+    happens_one Regroup r q place h g = regroup_one r q h g
+    happens_one event r q place h g = stay_one event r q place tt tt h g
 
   run_one : (events : List Event) (old other x y : Moment) (r q : List Reply) → All (IsInPlace (Some shape)) events → IsLed shape old → IsLed shape other
       → seen_of old.state ≡ seen_of other.state → next_sequence old.state.label ≡ next_sequence other.state.label
       → NoneRose old.beneath.counts.faults x.beneath.counts.faults → NoneRose other.beneath.counts.faults y.beneath.counts.faults
-      → (h : History K plain old events r x) (g : History L plain other events q y) → AllBothTook K L old other events r q x y h g → r ≡ q
-  run_one [] old other x y [] [] places led too same number none never h g took = refl
-  run_one [] old other x y [] (reply ∷ q) places led too same number none never h g took = absurd g
-  run_one [] old other x y (reply ∷ r) q places led too same number none never h g took = absurd h
-  run_one (event ∷ events) old other x y [] q places led too same number none never h g took = absurd h
-  run_one (event ∷ events) old other x y (reply ∷ r) [] places led too same number none never h g took = absurd g
-  run_one (event ∷ events) old other x y (reply ∷ r) (answer ∷ q) places led too same number none never h g took =
+      → History K plain old events r x → History L plain other events q y → r ≡ q
+  run_one [] old other x y [] [] places led too same number none never h g = refl
+  run_one [] old other x y [] (reply ∷ q) places led too same number none never h g = absurd g
+  run_one [] old other x y (reply ∷ r) q places led too same number none never h g = absurd h
+  run_one (event ∷ events) old other x y [] q places led too same number none never h g = absurd h
+  run_one (event ∷ events) old other x y (reply ∷ r) [] places led too same number none never h g = absurd g
+  run_one (event ∷ events) old other x y (reply ∷ r) (answer ∷ q) places led too same number none never h g =
       let mid = h.0 in
       let point = g.0 in
       let place = All-head (IsInPlace (Some shape)) event events places in
@@ -360,13 +293,13 @@ module _ (law : StepsKeepSteady) (shape : Shape) (K L : Type 0) (known : K) (kno
       let back = none_back old.beneath.counts.faults mid.beneath.counts.faults x.beneath.counts.faults h.1.rise.faults none in
       let before = none_front other.beneath.counts.faults point.beneath.counts.faults y.beneath.counts.faults (history_rises L point events q y g.2) never in
       let behind = none_back other.beneath.counts.faults point.beneath.counts.faults y.beneath.counts.faults g.1.rise.faults never in
-      let one = happens_one old other mid point led too same number front before event reply answer place took.0 h.1 g.1 in
+      let one = happens_one old other mid point led too same number front before event reply answer place h.1 g.1 in
       let next : next_sequence mid.state.label ≡ next_sequence point.state.label =
       step_number AreTold old.state mid.state event reply (happens_served K shape old event reply mid place h.1) (told law shape K known old event reply mid h.1)
       ∙ ap (λ (z : Reply). next_after z (next_sequence old.state.label)) one.0 ∙ ap (next_after answer) number
       ∙ sym (step_number AreTold other.state point.state event answer (happens_served L shape other event answer point place g.1) (told law shape L knows other event answer point g.1)) in
       let rest = run_one events mid point x y r q (All-tail (IsInPlace (Some shape)) event events places)
-      (led_on law shape K known old event reply mid led place h.1) (led_on law shape L knows other event answer point too place g.1) one.1 next back behind h.2 g.2 took.1 in
+      (led_on law shape K known old event reply mid led place h.1) (led_on law shape L knows other event answer point too place g.1) one.1 next back behind h.2 g.2 in
       ap (λ (z : Reply). z ∷ r) one.0 ∙ ap (λ (zs : List Reply). answer ∷ zs) rest
 
 -- ---- from blank arrays
@@ -407,25 +340,11 @@ blank_none shape before m made none =
     quiet_none shape.b (all_live shape.b) before m.beneath.counts made.first m.state.counts (length-range_with_len 0 shape.b) (made.begun refl)
     (subst (λ (live : List ℕ). AreCountsOf live m.beneath.counts m.state.counts) (ap (λ (s : State). s.live) made.is_blank.is) made.tied) none
 
--- the premise on the steps that took boundaries out of use: those of both histories took just the lost ones, or none was asked for, or the first history
--- has none
-abbrev pub Premise : (K L : Type 0) (shape : Shape) (events : List Event) (before after : Counts) (r q : List Reply) (x y : Moment)
-    → HistoryOf K before (Array shape ∷ events) r x → HistoryOf L after (Array shape ∷ events) q y → Type 0
-Premise K L shape events before after r q x y h g =
-    (TookLostOf K before (Array shape ∷ events) r x h × TookLostOf L after (Array shape ∷ events) q y g) ⊎ (All (λ event. event ≢ Regroup) events ⊎ All IsNoRegroup r)
-
 module _ (steps : StepsKeepSteady) (blanks : BlanksAreSteady) (K L : Type 0) (known : K) (knows : L) (shape : Shape) (is : IsShape shape) (events : List Event)
     (places : All (IsInPlace (Some shape)) events) (before after : Counts) where
-  both_all : (r q : List Reply) (x y : Moment) (h : HistoryOf K before (Array shape ∷ events) (Done ∷ r) x) (g : HistoryOf L after (Array shape ∷ events) (Done ∷ q) y)
-      → Premise K L shape events before after (Done ∷ r) (Done ∷ q) x y h g → AllBothTook K L h.0 g.0 events r q x y h.2 g.2
-  both_all r q x y h g (inl took) = took_lost K L h.0 g.0 events r q x y h.2 g.2 took.0 took.1
-  both_all r q x y h g (inr (inl apart)) = took_unasked K L h.0 g.0 events r q x y h.2 g.2 apart
-  both_all r q x y h g (inr (inr none)) = took_none K L h.0 g.0 events r q x y h.2 g.2 (All-tail IsNoRegroup Done r none)
-
   made_one : (r q : List Reply) (x y : Moment) → NoneRose before.faults x.beneath.counts.faults → NoneRose after.faults y.beneath.counts.faults
-      → (h : HistoryOf K before (Array shape ∷ events) (Done ∷ r) x) (g : HistoryOf L after (Array shape ∷ events) (Done ∷ q) y)
-      → Premise K L shape events before after (Done ∷ r) (Done ∷ q) x y h g → r ≡ q
-  made_one r q x y none never h g premise =
+      → (h : HistoryOf K before (Array shape ∷ events) (Done ∷ r) x) (g : HistoryOf L after (Array shape ∷ events) (Done ∷ q) y) → r ≡ q
+  made_one r q x y none never h g =
       let one = h.1 in
       let two = g.1 in
       let front = none_front before.faults h.0.beneath.counts.faults x.beneath.counts.faults (history_rises K h.0 events r x h.2) none in
@@ -439,18 +358,15 @@ module _ (steps : StepsKeepSteady) (blanks : BlanksAreSteady) (K L : Type 0) (kn
       let number : next_sequence h.0.state.label ≡ next_sequence g.0.state.label =
       ap (λ (s : State). next_sequence s.label) one.is_blank.is ∙ sym (ap (λ (s : State). next_sequence s.label) two.is_blank.is) in
       run_one steps shape K L known knows events h.0 g.0 x y r q places (blank_led blanks shape before h.0 is one) (blank_led blanks shape after g.0 is two) seen number back last h.2 g.2
-      (both_all r q x y h g premise)
 
   from_first : (r q : List Reply) (x y : Moment) → NoneRose before.faults x.beneath.counts.faults → NoneRose after.faults y.beneath.counts.faults
-      → (h : HistoryOf K before (Array shape ∷ events) (Done ∷ r) x) (g : HistoryOf L after (Array shape ∷ events) q y)
-      → Premise K L shape events before after (Done ∷ r) q x y h g → Done ∷ r ≡ q
-  from_first r [] x y none never h g premise = absurd g
-  from_first r (Done ∷ q) x y none never h g premise = ap (λ (l : List Reply). Done ∷ l) (made_one r q x y none never h g premise)
-  from_first r (answer ∷ q) x y none never h g premise = absurd g
+      → (h : HistoryOf K before (Array shape ∷ events) (Done ∷ r) x) (g : HistoryOf L after (Array shape ∷ events) q y) → Done ∷ r ≡ q
+  from_first r [] x y none never h g = absurd g
+  from_first r (Done ∷ q) x y none never h g = ap (λ (l : List Reply). Done ∷ l) (made_one r q x y none never h g)
+  from_first r (answer ∷ q) x y none never h g = absurd g
 
   pub histories_one : (r q : List Reply) (x y : Moment) → NoneRose before.faults x.beneath.counts.faults → NoneRose after.faults y.beneath.counts.faults
-      → (h : HistoryOf K before (Array shape ∷ events) r x) (g : HistoryOf L after (Array shape ∷ events) q y)
-      → Premise K L shape events before after r q x y h g → r ≡ q
-  histories_one [] q x y none never h g premise = absurd h
-  histories_one (Done ∷ r) q x y none never h g premise = from_first r q x y none never h g premise
-  histories_one (answer ∷ r) q x y none never h g premise = absurd h
+      → (h : HistoryOf K before (Array shape ∷ events) r x) (g : HistoryOf L after (Array shape ∷ events) q y) → r ≡ q
+  histories_one [] q x y none never h g = absurd h
+  histories_one (Done ∷ r) q x y none never h g = from_first r q x y none never h g
+  histories_one (answer ∷ r) q x y none never h g = absurd h

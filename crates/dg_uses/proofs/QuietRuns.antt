@@ -18,6 +18,7 @@ use Rattle.dg_model.specs.declared.events.Event.TheVariants.{Array, Safe, Parity
 use Rattle.dg_model.specs.declared.replies.Reply.{Reply}
 use Rattle.dg_model.specs.declared.replies.Reply.TheVariants.{Done, NotParity, Saved}
 use Rattle.dg_model.specs.declared.shapes.Shape.{Shape}
+use Rattle.dg_run.specs.Replays.{KeepsNone}
 use Rattle.dg_text.specs.Lines.{AreInPlace, IsInPlace}
 use Rattle.dg_uses.proofs.NextNumbers.{IsServed}
 use Rattle.dg_uses.proofs.Quiet.{at_high, at_low, quiet, quiet_counts, quiet_rises, quiet_rose, quiet_step}
@@ -27,8 +28,13 @@ use Rattle.dg_uses.proofs.Seated.{IsSeated, blank_seated, run_sits, sits_next, s
 
 happens_less : {K J : Type 0} → (J → K) → (kind : Kind) (old : Moment) (event : Event) (reply : Reply) (new : Moment) → Happens K kind old event reply new
     → Happens J kind old event reply new
-happens_less w kind old event reply new h =
-    record { step = step_less w old.state event reply new.state h.step; allowed = h.allowed; rise = h.rise; tied = tied_less w kind event old new h.tied }
+happens_less w kind old event reply new h = record {
+  step = step_less w old.state event reply new.state h.step;
+  allowed = h.allowed;
+  rise = h.rise;
+  tied = tied_less w kind event old new h.tied;
+  took = h.took;
+}
 
 pub history_less : {K J : Type 0} → (J → K) → (kind : Kind) (old : Moment) (events : List Event) (replies : List Reply) (new : Moment)
     → History K kind old events replies new → History J kind old events replies new
@@ -156,11 +162,15 @@ quiet_history Known before shape events (Done ∷ replies) final most stay h =
     }
 quiet_history Known before shape events (reply ∷ replies) final most stay h = absurd h
 
+-- the run of a history's states, whatever the array stands on
+pub told_run : {K : Type 0} → K → (kind : Kind) (old : Moment) (events : List Event) (replies : List Reply) (new : Moment) → History K kind old events replies new
+    → Run AreTold old.state events replies new.state
+told_run {K} known kind old events replies new h = run_less (λ _. known) old.state events replies new.state (history_runs K kind old events replies new h)
+
 -- the trace of a history's states, from the counts that its members had
 pub told_trace : {K : Type 0} → K → (before : Counts) (shape : Shape) (events : List Event) (replies : List Reply) (final : Moment)
     → (h : HistoryOf K before (Array shape ∷ events) (Done ∷ replies) final) → Trace AreTold h.1.first (Array shape ∷ events) (Done ∷ replies) final.state
-told_trace {K} known before shape events replies final h =
-    (h.0.state, h.1.is_blank, run_less (λ _. known) h.0.state events replies final.state (history_runs K plain h.0 events replies final h.2))
+told_trace known before shape events replies final h = (h.0.state, h.1.is_blank, told_run known plain h.0 events replies final h.2)
 
 -- ---- events on single disks
 
@@ -216,11 +226,18 @@ saved_whole Known old (e ∷ (x ∷ events)) [] number new was h = absurd h.2
 saved_whole Known old (e ∷ events) (r ∷ replies) number new was h =
     saved_whole Known h.0 events replies number new (step_seated Known old.state e r h.0.state was h.1.step) h.2
 
-pub ends_whole : (Known : Type 0) (before : Counts) (events : List Event) (replies : List Reply) (number : ℕ) (final : Moment) → AreInPlace (events ++ Save ∷ [])
+pub ends_whole : (Known : Type 0) (before : Counts) (events : List Event) (replies : List Reply) (number : ℕ) (final : Moment) → KeepsNone events → AreInPlace (events ++ Save ∷ [])
     → HistoryOf Known before (events ++ Save ∷ []) (replies ++ Saved number ∷ []) final → IsSeated final.state × (length final.state.live ≡ final.state.boundaries)
-ends_whole Known before [] replies number final places h = absurd places
-ends_whole Known before (Array shape ∷ events) [] number final places h = absurd h
-ends_whole Known before (Array shape ∷ events) (Done ∷ replies) number final places h =
+ends_whole Known before [] replies number final none places h = absurd places.0
+ends_whole Known before (Array shape ∷ events) [] number final none places h = absurd h
+ends_whole Known before (Array shape ∷ events) (Done ∷ replies) number final none places h =
     saved_whole Known h.0 events replies number final (blank_seated shape h.1.first h.0.state places.0.most_boundaries h.1.is_blank) h.2
-ends_whole Known before (Array shape ∷ events) (reply ∷ replies) number final places h = absurd h
-ends_whole Known before (event ∷ events) replies number final places h = absurd places
+ends_whole Known before (Array shape ∷ events) (reply ∷ replies) number final none places h = absurd h
+ends_whole Known before (Safe shape ∷ events) replies number final none places h = absurd none
+ends_whole Known before (event ∷ events) replies number final none places h = absurd places.0
+
+-- nor does it once it is saved
+pub keeps_none : (events : List Event) → KeepsNone events → KeepsNone (events ++ Save ∷ [])
+keeps_none [] none = tt
+keeps_none (Safe shape ∷ events) none = none
+keeps_none (event ∷ events) none = tt

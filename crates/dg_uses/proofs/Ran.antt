@@ -16,7 +16,7 @@ use Rattle.dg_uses.specs.Answers.{StaysWhole, answers}
 use Rattle.dg_uses.proofs.Chains.{trace_views}
 use Rattle.dg_uses.proofs.Flat.{trace_answers, whole_stay}
 use Rattle.dg_uses.proofs.InUse.{IsViewed, viewed_stay}
-use Rattle.dg_uses.proofs.OneRun.{BlanksAreSteady, Premise, StepsKeepSteady, histories_one}
+use Rattle.dg_uses.proofs.OneRun.{BlanksAreSteady, StepsKeepSteady, histories_one}
 use Rattle.dg_uses.proofs.Quiet.{quiet, quiet_counts}
 use Rattle.dg_uses.proofs.QuietRuns.{IsQuiet, Stay, quiet_history, stay_for}
 
@@ -36,7 +36,7 @@ views_viewed old (event ∷ events) (reply ∷ replies) new views =
     All-cons IsViewed event events (view_viewed old event reply views.0 views.1) (views_viewed views.0 events replies new views.2)
 
 -- the run of the states, over members of which nothing is counted behind the array's own
-module _ (tells : ℕ → Type 0) (shape : Shape) (events : List Event) (replies : List Reply) (run : RanSmoothly tells (Array shape ∷ events) replies)
+module _ (steady : Type 0) (tells : ℕ → Type 0) (shape : Shape) (events : List Event) (replies : List Reply) (run : RanSmoothly steady tells (Array shape ∷ events) replies)
     (stay : Stay events replies) where
   abbrev Told : Type 0
   Told = TellsBoundaries tells run.ran.final.state
@@ -47,36 +47,29 @@ module _ (tells : ℕ → Type 0) (shape : Shape) (events : List Event) (replies
   none_at_end : NoneRose (quiet_counts shape.b quiet_ran.first).faults (quiet_counts shape.b run.ran.final.state.counts).faults
   none_at_end = quiet_ran.none (subst (λ (c : Counts). NoneRose run.before.faults c.faults) (sym run.ran.counts) run.none)
 
-pub ran_views : (tells : ℕ → Type 0) (shape : Shape) (events : List Event) (replies chain : List Reply) (end : Core) → RanSmoothly tells (Array shape ∷ events) replies
+pub ran_views : (steady : Type 0) (tells : ℕ → Type 0) (shape : Shape) (events : List Event) (replies chain : List Reply) (end : Core) → RanSmoothly steady tells (Array shape ∷ events) replies
     → Views (blank_core shape) events chain end → replies ≡ Done ∷ chain
-ran_views tells shape events replies chain end run views =
+ran_views steady tells shape events replies chain end run views =
     let viewed = views_viewed (blank_core shape) events chain end views in
     let stay = stay_for events replies (λ r. viewed_stay events r viewed) in
-    let q = quiet_ran tells shape events replies run stay in
+    let q = quiet_ran steady tells shape events replies run stay in
     trace_views (TellsBoundaries tells run.ran.final.state) run.told shape events (quiet_counts shape.b q.first) replies chain (quiet shape.b run.ran.final.state) end
-    run.ran.in_place.0 viewed (none_at_end tells shape events replies run stay) q.trace views
+    run.ran.in_place.0 viewed (none_at_end steady tells shape events replies run stay) q.trace views
 
--- the premise on the steps of two such runs that took boundaries out of use
-abbrev pub TookAlike : (tells told : ℕ → Type 0) (shape : Shape) (events : List Event) (replies others : List Reply) → RanSmoothly tells (Array shape ∷ events) replies
-    → RanSmoothly told (Array shape ∷ events) others → Type 0
-TookAlike tells told shape events replies others x y =
-    Premise (TellsBoundaries tells x.ran.final.state) (TellsBoundaries told y.ran.final.state) shape events x.before y.before replies others x.ran.final y.ran.final x.ran.history y.ran.history
-
-pub ran_same : StepsKeepSteady → BlanksAreSteady → (tells told : ℕ → Type 0) (shape : Shape) (events : List Event) (replies others : List Reply)
-    → (x : RanSmoothly tells (Array shape ∷ events) replies) (y : RanSmoothly told (Array shape ∷ events) others) → TookAlike tells told shape events replies others x y
-    → replies ≡ others
-ran_same steps blanks tells told shape events replies others x y took =
+pub ran_same : StepsKeepSteady → BlanksAreSteady → (steady firm : Type 0) (tells told : ℕ → Type 0) (shape : Shape) (events : List Event) (replies others : List Reply)
+    → RanSmoothly steady tells (Array shape ∷ events) replies → RanSmoothly firm told (Array shape ∷ events) others → replies ≡ others
+ran_same steps blanks steady firm tells told shape events replies others x y =
     histories_one steps blanks (TellsBoundaries tells x.ran.final.state) (TellsBoundaries told y.ran.final.state) x.told y.told shape x.ran.in_place.0 events x.ran.in_place.1 x.before y.before
     replies others x.ran.final y.ran.final
     (subst (λ (c : Counts). NoneRose x.before.faults c.faults) (sym x.ran.counts) x.none)
     (subst (λ (c : Counts). NoneRose y.before.faults c.faults) (sym y.ran.counts) y.none)
-    x.ran.history y.ran.history took
+    x.ran.history y.ran.history
 
-pub ran_answers : (tells : ℕ → Type 0) (shape : Shape) (events : List Event) (replies : List Reply) → StaysWhole shape (λ q. false) events
-    → RanSmoothly tells (Array shape ∷ events) replies
+pub ran_answers : (steady : Type 0) (tells : ℕ → Type 0) (shape : Shape) (events : List Event) (replies : List Reply) → StaysWhole shape (λ q. false) events
+    → RanSmoothly steady tells (Array shape ∷ events) replies
     → replies ≡ Done ∷ answers shape (λ q. false) (λ b. []) events
-ran_answers tells shape events replies whole run =
+ran_answers steady tells shape events replies whole run =
     let stay = stay_for events replies (λ r. whole_stay shape (λ q. false) events r whole) in
-    let q = quiet_ran tells shape events replies run stay in
+    let q = quiet_ran steady tells shape events replies run stay in
     trace_answers (TellsBoundaries tells run.ran.final.state) run.told (quiet_counts shape.b q.first) shape events replies (quiet shape.b run.ran.final.state)
-    run.ran.in_place.0 whole (none_at_end tells shape events replies run stay) q.trace
+    run.ran.in_place.0 whole (none_at_end steady tells shape events replies run stay) q.trace

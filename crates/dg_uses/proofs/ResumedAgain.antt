@@ -10,16 +10,20 @@ use Rattle.dg_model.specs.declared.replies.Reply.{Reply}
 use Rattle.dg_run.specs.Calls.{Facts}
 use Rattle.dg_run.specs.Completes.{IsUnopened}
 use Rattle.dg_run.specs.Ends.{EndsSaved}
-use Rattle.dg_run.specs.Resumes.{AllResumed, EndsResume, ResumeBrokeOff}
+use Rattle.dg_run.specs.Resumes.{AllResumedBy, RanOn, ResumeBrokeOffBy}
 use Rattle.dg_run.specs.declared.top.Status.{Status}
 use Rattle.dg_run.specs.declared.top.Status.TheVariants.{Done, NoMemory, NoState, Refused, Unclean}
 use Rattle.dg_saved.specs.Calls.{Facts as SavedFacts}
 use Rattle.dg_saved.specs.Ends.{Answered, EndsEvent}
 use Rattle.dg_saved.specs.Saved.{FoundNoState, FoundUnclean, HasRun, TellsArray}
-use Rattle.dg_uses.specs.Saves.{GoesOn, HasAnswered, HasGoneOn, HasGoneOnSoFar, IsAnswered, IsFoundAgain}
+use Rattle.dg_uses.specs.Saves.{GoesOn, HasAnswered, HasGoneOn, HasGoneOnSoFar, IsAnswered, IsFoundAgain, KeepsNothing}
 
-pub resumed_as : (tells : ℕ → Type 0) (facts : Facts) (status other : Status) → EndsResume tells facts status → status ≡ other → EndsResume tells facts other
-resumed_as tells facts status other ends is = subst (λ (s : Status). EndsResume tells facts s) is ends
+-- all lines were done of an array that keeps no checkpoint, or those that a source gave whole which failed
+abbrev pub AllResumed : (ℕ → Type 0) → Facts → Type 0
+AllResumed tells facts = AllResumedBy (RanOn tells facts) facts
+
+abbrev pub ResumeBrokeOff : (ℕ → Type 0) → Facts → Type 0
+ResumeBrokeOff tells facts = ResumeBrokeOffBy (RanOn tells facts) facts
 
 -- a count that didn't rise in the call didn't in the opening
 pub none_in_opening : (before opened now : Counts) → CountsRise opened now → NoneRose before.faults now.faults → NoneRose before.faults opened.faults
@@ -54,7 +58,7 @@ asked_whole status none (inr (inr unopened)) = elim (resumed_whole status none (
 -- an array that is asked for one thing goes on from the state that was saved: a law, which is handed in
 abbrev pub AskedGoesOn : (ℕ → Type 0) → Type 0
 AskedGoesOn tells = (old : State) (number : ℕ) (last : State) (held : ℕ → Option (List ℕ)) (save : Save) (facts : SavedFacts) (event : Event) (reply : Reply)
-    (ran : HasRun tells facts event reply) → TellsArray tells ran.source.saved.table → IsFoundAgain old number last held save facts.images facts.bytes
+    → KeepsNothing facts → (ran : HasRun tells facts event reply) → TellsArray tells ran.source.saved.table → IsFoundAgain old number last held save facts.images facts.bytes
     → NoneRose facts.before.faults ran.opened.faults → IsAnswered old save facts.images facts.bytes facts.before facts.now event reply
 
 module _ (tells : ℕ → Type 0) (facts : SavedFacts) (event : Event) (text : Reply → List ℕ) (gives : Reply → Bool) (status : Status)
@@ -68,12 +72,12 @@ module _ (tells : ℕ → Type 0) (facts : SavedFacts) (event : Event) (text : R
   pub unclean_found : status ≡ Unclean → FoundUnclean facts
   unclean_found is = (ended_as Unclean is).0
 
-  module _ (law : AskedGoesOn tells) (told : (q : ℕ) → tells q) (old : State) (number : ℕ) (last : State) (held : ℕ → Option (List ℕ)) (save : Save)
+  module _ (nothing : KeepsNothing facts) (law : AskedGoesOn tells) (told : (q : ℕ) → tells q) (old : State) (number : ℕ) (last : State) (held : ℕ → Option (List ℕ)) (save : Save)
       (again : IsFoundAgain old number last held save facts.images facts.bytes) (none : NoneRose facts.before.faults facts.now.faults) where
     answered : (given : Bool) → Answered tells facts event text gives given → HasAnswered old save facts event text
     answered given one = record {
       reply = one.reply;
-      is = law old number last held save facts event one.reply one.ran (λ q low. told q) again (none_in_opening facts.before one.ran.opened facts.now one.ran.rise none);
+      is = law old number last held save facts event one.reply nothing one.ran (λ q low. told q) again (none_in_opening facts.before one.ran.opened facts.now one.ran.rise none);
       output = one.output;
     }
 

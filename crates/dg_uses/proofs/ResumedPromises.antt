@@ -1,10 +1,11 @@
 -- A resumed array beside the promise of an array.
 use Rattle.std.proofs.Common.{◌≡◌, ◌++◌, ◌∷◌, ℕ, List, length, inl, inr, refl, sym, ◌∙◌, ap, subst}
-use Rattle.std.specs.Prelude.{All, IfSome, IsSome, Option, Some, None, is_some}
+use Rattle.std.specs.Prelude.{All, false, IfSome, IsSome, Option, Some, None, is_some}
 use Rattle.std.proofs.lemmas.Bool.{cases_lt, false≢true}
+use Rattle.dg_io.specs.Kept.{Kept}
 use Rattle.dg_model.proofs.KnownLaws.{run_less}
 use Rattle.dg_model.proofs.MomentLaws.{history_runs}
-use Rattle.dg_model.specs.Moments.Kind.{plain}
+use Rattle.dg_model.specs.Moments.Kind.{double, plain}
 use Rattle.dg_model.specs.Openings.{Found, Opens, Reduced, Says}
 use Rattle.dg_model.specs.Runs.{Run}
 use Rattle.dg_model.specs.Saves.{CanBeSaved, SavedState}
@@ -18,12 +19,15 @@ use Rattle.dg_promise.specs.Promises.{AreTold}
 use Rattle.dg_promise.specs.Readings.{ReadsFrom}
 use Rattle.dg_promise.specs.Steady.{FitsBlock, IsSteady}
 use Rattle.dg_run.specs.Calls.{Facts, met_by}
-use Rattle.dg_run.specs.Opened.{opened_moment}
-use Rattle.dg_run.specs.Resumes.{RanOn}
+use Rattle.dg_run.specs.Finds.{Sees, tells_seen}
+use Rattle.dg_run.specs.Opened.{IsKnownKept, kept_moment, opened_moment}
+use Rattle.dg_run.specs.Resumes.{AreLines, RanOn, RanOnKept}
+use Rattle.dg_saved.specs.Calls.{Facts as SeenFacts}
 use Rattle.dg_saved.specs.OpeningLaws.{opens_less}
-use Rattle.dg_saved.specs.Saved.{IsKnown, had}
+use Rattle.dg_saved.specs.Saved.{HasSource, IsKnown, IsOpenedAs, had}
 use Rattle.dg_text.specs.Lines.{IsInPlace}
 use Rattle.dg_uses.proofs.Promised.{all_fit, all_front}
+use Rattle.dg_uses.proofs.Seeing.{seen_told}
 use Rattle.dg_uses.specs.Answers.{TellsEach}
 use Rattle.dg_uses.specs.Promises.{resumed_from}
 
@@ -77,24 +81,50 @@ abbrev pub RunsKeep : Type 0
 RunsKeep = (first : State) (front : List Event) (path : List ℕ) (rest : List Event) (replies : List Reply) (last : State) → IsSteady first
     → All (FitsBlock first.table.shape.l) front → Run AreTold first (front ++ Cat path ∷ rest) replies last → ReadsFrom first front path rest replies last
 
+-- an array that was opened with blocks that its members held is steady
+module _ (opens_steady : OpensSteady) (tells : ℕ → Type 0) (facts : SeenFacts) (opened : Counts) (source : HasSource facts opened) (V : List (List ℕ)) (state : State)
+    (is : IsOpenedAs tells facts opened source V state) (known : IsKnown tells facts opened source V) where
+  opened_steady : TellsEach facts.images → TellsEach facts.bytes → All (λ block. length block ≡ source.saved.table.shape.l) V → IsSteady state
+  opened_steady images bytes sizes =
+      let opens : Opens AreTold source.taken source.beside facts.before state = opens_less (λ _. known) source.taken source.beside facts.before state is.opens in
+      let can = of_taken (λ q. had (facts.images q) (facts.bytes q)) facts.before.faults opened.faults source.taken opens.source
+      (record { label = opens.label; state = Some opens.saved }) opens.saved (λ q. had_told (facts.images q) (facts.bytes q) (images q) (bytes q)) source.read
+      opens.is_source.newest.there refl in
+      let blocks : All (λ block. length block ≡ state.table.shape.l) state.blocks =
+      subst (λ (t : Table). All (λ block. length block ≡ t.shape.l) state.blocks) (sym is.table)
+      (subst (λ (v : List (List ℕ)). All (λ block. length block ≡ source.saved.table.shape.l) v) (sym is.blocks) sizes) in
+      opens_steady source.taken source.beside facts.before state blocks opens can
+
+  front_fits : (front rest : List Event) (path : List ℕ) → AreLines source.saved.table.shape (front ++ Cat path ∷ rest) → All (FitsBlock state.table.shape.l) front
+  front_fits front rest path lines =
+      let shape = source.saved.table.shape in
+      subst (λ (t : Table). All (FitsBlock t.shape.l) front) (sym is.table) (all_fit shape front (all_front (IsInPlace (Some shape)) front (Cat path ∷ rest) lines.in_place))
+
 pub resumed_reads : OpensSteady → RunsKeep → (tells : ℕ → Type 0) (facts : Facts) (front rest : List Event) (path : List ℕ) (replies : List Reply)
     (ran : RanOn tells facts (front ++ Cat path ∷ rest) replies) (V : List (List ℕ)) (size : length V ≡ ran.source.saved.table.shape.n)
     → All (λ block. length block ≡ ran.source.saved.table.shape.l) V → TellsEach facts.images → TellsEach facts.bytes → IsKnown tells (met_by facts) ran.opened ran.source V
     → ReadsFrom (resumed_from (ran.runs V size).resumed) front path rest replies (ran.runs V size).resumed.final.state
 resumed_reads opens_steady keeps tells facts front rest path replies ran V size sizes images bytes known =
     let resumed = (ran.runs V size).resumed in
-    let state = resumed.state in
-    let opens : Opens AreTold ran.source.taken None facts.before state = opens_less (λ _. known) ran.source.taken None facts.before state resumed.is.opens in
-    let can = of_taken (λ q. had (facts.images q) (facts.bytes q)) facts.before.faults ran.opened.faults ran.source.taken opens.source
-    (record { label = opens.label; state = Some opens.saved }) opens.saved (λ q. had_told (facts.images q) (facts.bytes q) (images q) (bytes q)) ran.source.read
-    opens.is_source.newest.there refl in
-    let blocks : All (λ block. length block ≡ state.table.shape.l) state.blocks =
-    subst (λ (t : Table). All (λ block. length block ≡ t.shape.l) state.blocks) (sym resumed.is.table)
-    (subst (λ (v : List (List ℕ)). All (λ block. length block ≡ ran.source.saved.table.shape.l) v) (sym resumed.is.blocks) sizes) in
-    let steady = opens_steady ran.source.taken None facts.before state blocks opens can in
-    let fit = subst (λ (t : Table). All (FitsBlock t.shape.l) front) (sym resumed.is.table)
-    (all_fit ran.source.saved.table.shape front (all_front (IsInPlace (Some ran.source.saved.table.shape)) front (Cat path ∷ rest) ran.lines.in_place)) in
+    let steady = opened_steady opens_steady tells (met_by facts) ran.opened ran.source V resumed.state resumed.is known images bytes sizes in
+    let fit = front_fits opens_steady tells (met_by facts) ran.opened ran.source V resumed.state resumed.is known front rest path ran.lines in
     let first = resumed_from resumed in
-    let run = history_runs _ plain (opened_moment state resumed.first ran.opened) (front ++ Cat path ∷ rest) replies resumed.final resumed.history in
-    keeps first front path rest replies resumed.final.state (with_counts state resumed.first steady) fit
+    let run = history_runs _ plain (opened_moment resumed.state resumed.first ran.opened) (front ++ Cat path ∷ rest) replies resumed.final resumed.history in
+    keeps first front path rest replies resumed.final.state (with_counts resumed.state resumed.first steady) fit
     (run_less (λ _. known) first (front ++ Cat path ∷ rest) replies resumed.final.state run)
+
+-- the same of an array that keeps a checkpoint
+pub resumed_reads_kept : OpensSteady → RunsKeep → (tells : ℕ → Type 0) (WasKept : Kept → Type 0) (facts : Facts) (seen : SeenFacts) (sees : Sees tells (met_by facts) seen) (front rest : List Event)
+    (path : List ℕ) (replies : List Reply) (ran : RanOnKept tells WasKept facts seen sees.said (front ++ Cat path ∷ rest) replies) (V : List (List ℕ))
+    (size : length V ≡ ran.source.saved.table.shape.n) → All (λ block. length block ≡ ran.source.saved.table.shape.l) V → TellsEach facts.bytes
+    → IsKnownKept tells facts seen sees.said ran.opened ran.source V
+    → ReadsFrom (ran.runs V size).resumed.state front path rest replies (ran.runs V size).resumed.final.state
+resumed_reads_kept opens_steady keeps tells WasKept facts seen sees front rest path replies ran V size sizes told known =
+    let resumed = (ran.runs V size).resumed in
+    let state = resumed.state in
+    let bytes : TellsEach seen.bytes = seen_told tells (met_by facts) seen sees told in
+    let steady =
+    opened_steady opens_steady (tells_seen tells sees.said) seen ran.opened ran.source V state resumed.is known.1 (λ q. sees.still q (bytes q)) bytes sizes in
+    let fit = front_fits opens_steady (tells_seen tells sees.said) seen ran.opened ran.source V state resumed.is known.1 front rest path ran.lines in
+    let run = history_runs _ double (kept_moment state resumed.beneath) (front ++ Cat path ∷ rest) replies resumed.final resumed.history in
+    keeps state front path rest replies resumed.final.state steady fit (run_less (λ _. known) state (front ++ Cat path ∷ rest) replies resumed.final.state run)

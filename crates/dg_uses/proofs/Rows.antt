@@ -72,7 +72,7 @@ pub prints_written : OneInput → (end : Replay) → HasReplayed (codes "array 1
 prints_written one end did never =
     prints one shape_here written (answers shape_here (λ q. false) (λ b. []) written) written_placed
     (codes "array 1024 64 4 32 2\nwrite 3 6869\nread 3\n") written_text end
-    (λ replies run. ran_answers (told_in end.rack) shape_here written replies tt run) did never
+    (λ replies run. ran_answers (Unit {0}) (told_in end.rack) shape_here written replies tt run) did never
     ∙ written_output
 
 -- ---- a member fails between two writes
@@ -109,5 +109,5 @@ pub prints_failed : OneInput → (end : Replay) → HasReplayed (codes "array 10
 prints_failed one end did never =
     prints one shape_here failed (answers shape_here (λ q. false) (λ b. []) failed) failed_placed
     (codes "array 1024 64 4 32 2\nwrite 3 aa\nfail 3 0\nwrite 3 bb\nread 3\n") failed_text end
-    (λ replies run. ran_answers (told_in end.rack) shape_here failed replies failed_whole run) did never
+    (λ replies run. ran_answers (Unit {0}) (told_in end.rack) shape_here failed replies failed_whole run) did never
     ∙ failed_output

@@ -5,7 +5,7 @@ use Rattle.std.proofs.lemmas.List.{append-nil}
 use Rattle.std.proofs.lemmas.List.Elements.{All-head, All-nil, All-tail}
 use Rattle.dg_model.specs.Shapes.{IsShape}
 use Rattle.dg_model.specs.declared.events.Event.{Event}
-use Rattle.dg_model.specs.declared.events.Event.TheVariants.{Array}
+use Rattle.dg_model.specs.declared.events.Event.TheVariants.{Array, Safe}
 use Rattle.dg_model.specs.declared.shapes.Shape.{Shape}
 use Rattle.dg_run.specs.Bytes.{HasNoLineFeed}
 use Rattle.dg_text.specs.Lines.{AreInPlace, IsInPlace, input_of, line_of, spelling}
@@ -46,7 +46,11 @@ module _ (one : OneLine) (part rest : List ℕ) (none : HasNoLineFeed part) (las
       ap (λ (e : Event). e ∷ events) first.0
       ∙ ap (λ (l : List Event). Array shape ∷ l)
       (same_lines shape events others (subst (λ (t : Shape). All (IsInPlace (Some t)) events) same places.1) there first.1)
-  same_input (event ∷ events) shape others places well there is = absurd places
+  same_input (Safe s ∷ events) shape others places well there is =
+      let first = one None (Safe s) (Array shape) (input_of events ++ part) (input_of others ++ rest) places.0 well
+      (sym (begins_with (Safe s) events part) ∙ is ∙ begins_with (Array shape) others rest) in
+      let same : Safe s ≡ Array shape = first.0 in absurd (cc same)
+  same_input (event ∷ events) shape others places well there is = absurd places.0
 
 -- of lines alone
 pub same_events : OneLine → (shape : Shape) (events others : List Event) → All (IsInPlace (Some shape)) events → All (IsInPlace (Some shape)) others

@@ -28,11 +28,11 @@ use Rattle.dg_open.specs.Founds.{AreRead, IsBodyRead, IsPassed, IsRead}
 use Rattle.dg_run.specs.Calls.{Facts as CallFacts, met_by}
 use Rattle.dg_run.specs.Opened.{Reached, opened_moment}
 use Rattle.dg_saved.specs.Calls.{Facts}
-use Rattle.dg_saved.specs.OpeningLaws.{opens_less}
+use Rattle.dg_saved.specs.OpeningLaws.{opens_alone, opens_less}
 use Rattle.dg_saved.specs.Saved.{HasLooked, HasSource, IsKnown, IsOpenedAs, RunsFrom, had}
 use Rattle.dg_uses.proofs.QuietRuns.{history_less}
 use Rattle.dg_uses.specs.Answers.{TellsEach}
-use Rattle.dg_uses.specs.Saves.{GoesOn, IsAnswered, IsOpenedAgain}
+use Rattle.dg_uses.specs.Saves.{GoesOn, IsAnswered, IsOpenedAgain, KeepsNothing}
 
 -- ---- what is taken where no count rose
 
@@ -99,13 +99,14 @@ looked_taken facts looked tells none =
 -- ---- an opening whose bytes are told
 
 -- An array that was opened with the blocks of a save has those of the old state.
-module _ (tells : ℕ → Type 0) (facts : Facts) (opened : Counts) (source : HasSource facts opened) (old : State) (save : Save) where
+module _ (tells : ℕ → Type 0) (facts : Facts) (opened : Counts) (source : HasSource facts opened) (nothing : KeepsNothing facts) (old : State) (save : Save) where
   pub opened_again : (state : State) → IsOpenedAs tells facts opened source save.blocks state → IsKnown tells facts opened source save.blocks → save.blocks ≡ old.blocks
       → AreTaken facts.images source.taken → NoneRose facts.before.faults opened.faults
       → ((s : State) → Opens AreTold source.taken None facts.before s → NoneRose facts.before.faults s.counts.faults → IsResumed old save facts.images s)
       → IsOpenedAgain old save facts.images facts.before state
   opened_again state is known same taken none resume =
-      let opens : Opens AreTold source.taken None facts.before state = opens_less (λ _. known) source.taken None facts.before state is.opens in
+      let opens : Opens AreTold source.taken None facts.before state =
+      opens_less (λ _. known) source.taken None facts.before state (opens_alone facts nothing.extra nothing.room source tells save.blocks state is) in
       let quiet : NoneRose facts.before.faults state.counts.faults = subst (λ (c : Counts). NoneRose facts.before.faults c.faults) (sym is.counts) none in
       record {
         opened = record { taken = source.taken; are = taken; opens = opens; none = quiet };

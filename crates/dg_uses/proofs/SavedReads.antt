@@ -38,15 +38,18 @@ use Rattle.dg_model.specs.declared.shapes.Shape.{Shape}
 use Rattle.dg_run.specs.Calls.{Facts}
 use Rattle.dg_run.specs.Opened.{opened_moment}
 use Rattle.dg_run.specs.Replays.{Ran, Replayed, TellsBoundaries}
-use Rattle.dg_run.specs.Resumes.{AllResumed, RanOn}
+use Rattle.dg_run.specs.Resumes.{AllResumedBy, EndsResume, EndsResumed, RanOn}
+use Rattle.dg_run.specs.declared.top.Status.{Status}
+use Rattle.dg_run.specs.declared.top.Status.TheVariants.{Done as Finished, NoMemory}
 use Rattle.dg_saved.specs.Saved.{TellsArray}
 use Rattle.dg_text.specs.Lines.{AreInPlace, IsInPlace, input_of}
 use Rattle.dg_text.specs.Replies.{output_of}
 use Rattle.dg_uses.proofs.Flat.{Fine, blank_fine, good_all, good_not_out, sites_stand, stay_same, write_below}
+use Rattle.dg_uses.proofs.Headers.{saved_headers}
 use Rattle.dg_uses.proofs.Held.{holds_whole}
 use Rattle.dg_uses.proofs.InUse.{InUse, gone_is, in_use_stays}
 use Rattle.dg_uses.proofs.Lines.{OneInput, none_from}
-use Rattle.dg_uses.proofs.OtherMembers.{others_in}
+use Rattle.dg_uses.proofs.OtherMembers.{array_makes, others_in}
 use Rattle.dg_uses.proofs.Quiet.{quiet, quiet_counts}
 use Rattle.dg_uses.proofs.QuietRuns.{history_tied, quiet_history, stay_for}
 use Rattle.dg_uses.proofs.RefusedRows.{OneLine}
@@ -56,17 +59,17 @@ use Rattle.dg_uses.proofs.TakenAway.{BlankIsOlder, all_stand}
 use Rattle.dg_uses.proofs.TracedLaws.{told_both}
 use Rattle.dg_uses.specs.Answers.{member_by, put}
 use Rattle.dg_uses.specs.Replays.{AreNone}
-use Rattle.dg_uses.specs.Saves.{GoesOn, IsFoundAgain, first_of}
+use Rattle.dg_uses.specs.Saves.{GoesOn, HaveNoHeaders, IsFoundAgain, first_of}
 
 -- ---- the two texts
 
-abbrev hi : List ℕ
+abbrev pub hi : List ℕ
 hi = 104 ∷ 105 ∷ []
 
-abbrev saved_events : List Event
+abbrev pub saved_events : List Event
 saved_events = Write 3 hi ∷ SaveEvent ∷ []
 
-saved_placed : AreInPlace (Array shape_here ∷ saved_events)
+pub saved_placed : AreInPlace (Array shape_here ∷ saved_events)
 saved_placed = (
   shape_is,
   All-cons IsHere (Write 3 hi) (SaveEvent ∷ []) (omega arith, omega arith, two_bytes 104 105 (omega arith) (omega arith)) (All-cons IsHere SaveEvent [] tt (All-nil IsHere)),
@@ -153,7 +156,8 @@ all_stay : (replies : List Reply) → StayInUse saved_events replies
 all_stay [] = tt
 all_stay (r ∷ replies) = (tt, save_stays replies)
 
--- The members have these bytes: a state was saved on them whose block 3 has the bytes that were written, and each of its members is good.
+-- The members have these bytes: a state was saved on them whose block 3 has the bytes that were written, and each of its members is good; those behind
+-- them have no bytes.
 pub record IsSavedOn (images : ℕ → Option (List ℕ)) : Type 0 where
   pub old : State
   pub fine : Fine shape_here none_out written_here old
@@ -163,13 +167,15 @@ pub record IsSavedOn (images : ℕ → Option (List ℕ)) : Type 0 where
   pub left : LeavesSave old number last images save
   pub away : AreTakenAway save last images images
   pub good : (q : ℕ) → q / 2 < 4 → is_good (last.members q) ≡ true
+  pub behind : (q : ℕ) → 4 ≤ q / 2 → images q ≡ Some []
+  pub headers : HaveNoHeaders images
 
-module _ (leaves : SavesLeave) (older : BlankIsOlder) (before now : Counts) (images bytes : ℕ → Option (List ℕ)) (tells : ℕ → Type 0) (fresh : AreNone before)
+module _ (leaves : SavesLeave) (older : BlankIsOlder) (before now : Counts) (images bytes : ℕ → Option (List ℕ)) (steady : Type 0) (tells : ℕ → Type 0) (fresh : AreNone before)
     (never : NoneRose (λ q. 0) now.faults) (told : (q : ℕ) → tells q) (held : (q : ℕ) → IsSome (bytes q)) (empty : (q : ℕ) → 4 ≤ q / 2 → images q ≡ Some [])
-    (replies : List Reply) (ran : Ran before now images bytes tells (Array shape_here ∷ saved_events) replies) where
+    (replies : List Reply) (ran : Ran before now images bytes steady tells (Array shape_here ∷ saved_events) replies) where
   behind : (q : ℕ) → 4 ≤ q / 2 → bytes q ≡ Some []
   behind q past =
-      let same = told_both IsSame (images q) (bytes q) [] (empty q past) (held q) (others_in before now images bytes tells shape_here saved_events replies ran q past) in
+      let same = told_both IsSame (images q) (bytes q) [] (empty q past) (held q) (others_in before now images bytes steady tells (Array shape_here) 4 saved_events replies (array_makes shape_here saved_events) ran q past) in
       same.1 ∙ ap Some same.2
 
   pub is_saved_on : IsSavedOn bytes
@@ -190,7 +196,7 @@ module _ (leaves : SavesLeave) (older : BlankIsOlder) (before now : Counts) (ima
       let rest = none_back t.blank.counts.faults m.mid.counts.faults last.counts.faults (step_keeps Known t.blank (Write 3 hi) m.reply m.mid tt m.step).counts.faults later in
       let wrote = write_below Known known shape_here (omega arith) none_out (λ b. []) t.blank m.mid (blank_fine shape_here first t.blank at_first t.is_blank) here 3 hi m.reply (omega arith) m.step in
       let saved = is_saved Known written_here m.mid last wrote.1 rest n.reply (subst (λ (s : State). Step Known m.mid SaveEvent n.reply s) (sym end.1) n.step) in
-      let all = holds_whole bytes ran.final.state q.seated q.whole (ran.holds known) in
+      let all = holds_whole bytes ran.final.state q.seated q.whole (ran.holds tt known) in
       let left = leaves m.mid saved.number last bytes (step_less {J = AreTold} (λ _. known) m.mid SaveEvent (Saved saved.number) last saved.step) q.whole
       (record { blocks = all.blocks; label = all.label; sizes = all.sizes; fresh = all.fresh }) in
       let size : last.table.shape.b ≡ 4 = ap (λ (t : Table). t.shape.b) saved.table ∙ ap (λ (s : Shape). s.b) wrote.1.within.numbers in
@@ -205,6 +211,8 @@ module _ (leaves : SavesLeave) (older : BlankIsOlder) (before now : Counts) (ima
         away = (all_stand older left.0 last bytes 0 (omega arith) (ap is_good (good 0 (omega arith))) held
             (λ p low out. good_not_out (last.members p) (good p (omega (arith, low, size))) out) (λ p past. behind p (omega (arith, past, size)))).0;
         good = λ p low. ap is_good (good p low);
+        behind = behind;
+        headers = saved_headers m.mid last saved.number bytes left.0 left.1 (λ p low. ap is_good (good p (omega (arith, low, size)))) (λ p past. behind p (omega (arith, past, size)));
       }
 
 -- ---- the block is read
@@ -300,7 +308,7 @@ module _ (images bytes : ℕ → Option (List ℕ)) (told : (q : ℕ) → IsSome
 
 -- the text of the second call is read, where the first one left its save
 pub reads_saved : OneLine → (tells : ℕ → Type 0) → ResumedGoesOn tells → (facts : Facts) → ((q : ℕ) → tells q) → ((q : ℕ) → IsSome (facts.images q)) → ((q : ℕ) → IsSome (facts.bytes q))
-    → IsSavedOn facts.images → AreZero facts.now → facts.left ≡ Some (codes "read 3\n") → IsSome facts.rest → AllResumed tells facts
+    → IsSavedOn facts.images → AreZero facts.now → facts.left ≡ Some (codes "read 3\n") → IsSome facts.rest → AllResumedBy (RanOn tells facts) facts
     → Told (Took (codes "data 6869\n")) facts.taken facts.given
 reads_saved line tells law facts told held bytes on_it zeros left some all =
     let ran = all.ran in
@@ -318,21 +326,25 @@ reads_saved line tells law facts told held bytes on_it zeros left some all =
     subst (λ (t : List ℕ). Told (Took t) facts.taken facts.given) (ap output_of replies ∙ read_output) all.output
 
 -- the first call's text is this one
-pub saved_by : OneInput → SavesLeave → BlankIsOlder → (tells : ℕ → Type 0) (facts : Facts) → AreNone facts.before → NoneRose (λ q. 0) facts.now.faults → ((q : ℕ) → tells q)
+pub saved_by : OneInput → SavesLeave → BlankIsOlder → (steady : Type 0) (tells : ℕ → Type 0) (facts : Facts) → AreNone facts.before → NoneRose (λ q. 0) facts.now.faults → ((q : ℕ) → tells q)
     → ((q : ℕ) → IsSome (facts.bytes q)) → ((q : ℕ) → 4 ≤ q / 2 → facts.images q ≡ Some []) → facts.left ≡ Some (codes "array 1024 64 4 32 2\nwrite 3 6869\nsave\n") → IsSome facts.rest
-    → Replayed facts.before facts.now facts.images facts.bytes tells facts.left facts.rest facts.taken facts.given → IsSavedOn facts.bytes
-saved_by one leaves older tells facts fresh never told held empty left some all =
+    → Replayed facts.before facts.now facts.images facts.bytes steady tells facts.left facts.rest facts.taken facts.given → IsSavedOn facts.bytes
+saved_by one leaves older steady tells facts fresh never told held empty left some all =
     let read = told_both (λ x a. (x ≡ input_of all.events) × (a ≡ [])) facts.left facts.rest _ left some all.input in
     let events = one all.events (Array shape_here ∷ saved_events) all.ran.in_place saved_placed (sym read.2.0 ∙ saved_text) in
-    is_saved_on leaves older facts.before facts.now facts.images facts.bytes tells fresh never told held empty all.replies
-    (subst (λ (es : List Event). Ran facts.before facts.now facts.images facts.bytes tells es all.replies) events all.ran)
+    is_saved_on leaves older facts.before facts.now facts.images facts.bytes steady tells fresh never told held empty all.replies
+    (subst (λ (es : List Event). Ran facts.before facts.now facts.images facts.bytes steady tells es all.replies) events all.ran)
 
 -- where no count rose by the end of the second call, none had by the end of the first one
-pub none_between : (tells : ℕ → Type 0) (facts : Facts) → AllResumed tells facts → NoneRose (λ q. 0) facts.now.faults → AreZero facts.now × NoneRose (λ q. 0) facts.before.faults
-none_between tells facts all never =
-    let ended : AreZero facts.now = λ q. zero_still (facts.now.faults q) (never q) in (
-      ended,
-      λ q rose. no_rise 0 (facts.before.faults q)
-          (zero_before (facts.before.faults q) (all.ran.opened.faults q) (all.ran.source.rise.faults q)
-          (zero_before (all.ran.opened.faults q) (facts.now.faults q) (all.ran.rise.faults q) (ended q))) rose,
-    )
+pub none_between : (steady : Type 0) (tells : ℕ → Type 0) (facts : Facts) (status : Status) → EndsResumed steady tells facts status → status ≡ Finished → NoneRose (λ q. 0) facts.now.faults
+    → AreZero facts.now × NoneRose (λ q. 0) facts.before.faults
+none_between steady tells facts status ends is never =
+    let ended : AreZero facts.now = λ q. zero_still (facts.now.faults q) (never q) in
+    (ended, λ q rose. no_rise 0 (facts.before.faults q) (zero_before (facts.before.faults q) (facts.now.faults q) (rise status ends is q) (ended q)) rose)
+  where
+    rise : (s : Status) → EndsResumed steady tells facts s → s ≡ Finished → (q : ℕ) → facts.before.faults q ≤ facts.now.faults q
+    rise s (inl first) is q = let both : Finished ≡ NoMemory = sym is ∙ first.is in absurd (cc both)
+    rise s (inr (inl alone)) is q =
+        let all = subst (λ (x : Status). EndsResume tells facts x) is alone.ends in
+        omega (arith, all.ran.source.rise.faults q, all.ran.rise.faults q)
+    rise s (inr (inr by)) is q = by.sees.rise.faults q

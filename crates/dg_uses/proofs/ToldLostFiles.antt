@@ -1,27 +1,28 @@
 -- What holds of an array that told which files lost blocks.
 use Rattle.std.proofs.Common.{◌≡◌, ◌∙◌, ◌++◌, ℕ, List, [], ◌∷◌, length, sym, ap, subst}
-use Rattle.std.specs.Prelude.{All}
+use Rattle.std.specs.Prelude.{All, Ok, Some}
 use Rattle.std.proofs.lemmas.List.Elements.{All-head, All-tail}
 use Rattle.dg_model.proofs.StepLaws.{step_keeps}
 use Rattle.dg_model.specs.Paths.{PathOf}
-use Rattle.dg_model.specs.Runs.{Run, Trace}
+use Rattle.dg_model.specs.Runs.{Run}
 use Rattle.dg_model.specs.Shapes.{IsShape}
-use Rattle.dg_model.specs.States.{Counts, State}
+use Rattle.dg_model.specs.States.{Counts, IsBlank, State}
 use Rattle.dg_model.specs.Steps.{AreLostIn, Step}
 use Rattle.dg_model.specs.Tables.{IsTable}
 use Rattle.dg_model.specs.Changes.{IsInOrder}
 use Rattle.dg_model.specs.Valid.{KeepsPromise}
 use Rattle.dg_model.specs.declared.events.Event.{Event}
-use Rattle.dg_model.specs.declared.events.Event.TheVariants.{Array, LostFiles, Regroup}
+use Rattle.dg_model.specs.declared.events.Event.TheVariants.{LostFiles, Regroup}
 use Rattle.dg_model.specs.declared.replies.Reply.{Reply}
-use Rattle.dg_model.specs.declared.replies.Reply.TheVariants.{Done, LostFiles as LostFilesReply, Regrouped, TooFew, Whole}
+use Rattle.dg_model.specs.declared.replies.Reply.TheVariants.{LostFiles as LostFilesReply, Regrouped, TooFew, Whole}
 use Rattle.dg_model.specs.declared.shapes.Shape.{Shape}
 use Rattle.dg_promise.specs.Promises.{AreTold, FewLost}
 use Rattle.dg_promise.specs.Steady.{FitsBlock, IsSteady}
+use Rattle.dg_text.specs.Lines.{IsInPlace}
 use Rattle.dg_uses.proofs.OneRun.{BlanksAreSteady, StepsKeepSteady}
+use Rattle.dg_uses.proofs.Promised.{all_fit}
 use Rattle.dg_uses.specs.LostFiles.{TellsLostFiles}
 use Rattle.ufs_model.specs.Trees.{tree_of}
-use Rattle.std.specs.Prelude.{Ok}
 
 abbrev pub FewLeaveWhole : Type 0
 FewLeaveWhole = (state : State) (path : List ℕ) → IsTable state.table → All (λ block. length block ≡ state.table.shape.l) state.blocks
@@ -78,9 +79,10 @@ told_of keeps few lost new last =
       promise = λ left path. few new path steady.sites steady.size (steady.settled settled) left;
     }
 
-pub tells_lost : BlanksAreSteady → StepsKeepSteady → FewLeaveWhole → (first : Counts) (shape : Shape) (events : List Event) (replies : List Reply) (lost : List PathOf)
-    (final : State) → IsShape shape → All (FitsBlock shape.l) (events ++ LostFiles ∷ [])
-    → Trace AreTold first (Array shape ∷ (events ++ LostFiles ∷ [])) (Done ∷ (replies ++ LostFilesReply lost ∷ [])) final → TellsLostFiles lost final
-tells_lost blanks keeps few first shape events replies lost final is fits trace =
-    told_of keeps few lost final (asks_last keeps shape.l lost trace.0 events replies final (blanks shape first trace.0 is trace.1)
-    (ap (λ (s : State). s.table.shape.l) trace.1.is) fits trace.2)
+-- the run begins with a blank array, whatever its members stand on
+pub tells_lost : BlanksAreSteady → StepsKeepSteady → FewLeaveWhole → (shape : Shape) (first : Counts) (blank : State) (events : List Event) (replies : List Reply)
+    (lost : List PathOf) (final : State) → IsShape shape → IsBlank shape first blank → All (IsInPlace (Some shape)) (events ++ LostFiles ∷ [])
+    → Run AreTold blank (events ++ LostFiles ∷ []) (replies ++ LostFilesReply lost ∷ []) final → TellsLostFiles lost final
+tells_lost blanks keeps few shape first blank events replies lost final is blank_is places run =
+    told_of keeps few lost final (asks_last keeps shape.l lost blank events replies final (blanks shape first blank is blank_is)
+    (ap (λ (s : State). s.table.shape.l) blank_is.is) (all_fit shape (events ++ LostFiles ∷ []) places) run)

@@ -14,7 +14,7 @@ use Rattle.dg_model.specs.declared.replies.Reply.{Reply}
 use Rattle.dg_promise.specs.Promises.{AreTold}
 use Rattle.dg_run.specs.Calls.{Facts, streams_of}
 use Rattle.dg_run.specs.Ends.{EndsReplay, EndsTrace}
-use Rattle.dg_run.specs.Replays.{TellsBoundaries}
+use Rattle.dg_run.specs.Replays.{KeepsNone, TellsBoundaries}
 use Rattle.dg_run.specs.declared.top.Status.TheVariants.{Done as StatusDone}
 use Rattle.dg_text.specs.Lines.{AreBytes, AreInPlace, input_of}
 use Rattle.dg_trace.specs.Answers.{IsAccepted, answer_text, events_of, volume_bytes}
@@ -71,11 +71,11 @@ writes_viewed : (l : ℕ) (image blocks : List ℕ) → All IsViewed (writes_of 
 writes_viewed l image [] = All-nil IsViewed
 writes_viewed l image (b ∷ blocks) = All-cons IsViewed (write_of l image b) (writes_of l image blocks) tt (writes_viewed l image blocks)
 
-pub holds_traced : OneInput → TraceIsInput → ReplayHolds → (tells : ℕ → Type 0) (t f : Facts) (asked : Asked) (image : List ℕ)
+pub holds_traced : OneInput → TraceIsInput → ReplayHolds → (steady : Type 0) (tells : ℕ → Type 0) (t f : Facts) (asked : Asked) (image : List ℕ)
     → EndsTrace (streams_of t) asked StatusDone → t.left ≡ Some image → IsSome t.rest → t.taken ≡ Some [] → IsSome t.given
-    → EndsReplay tells f StatusDone → f.left ≡ t.given → IsSome f.rest → ((q : ℕ) → tells q) → NoneRose f.before.faults f.now.faults
+    → EndsReplay steady tells f StatusDone → f.left ≡ t.given → IsSome f.rest → ((q : ℕ) → tells q) → NoneRose f.before.faults f.now.faults
     → HoldsTraced asked image f.taken f.given f.bytes
-holds_traced one input replay tells t f asked image ends left rest taken given replayed same more told none =
+holds_traced one input replay steady tells t f asked image ends left rest taken given replayed same more told none =
     let is = traced t asked image ends left rest taken given in
     let read = told_both (λ b a. (b ≡ input_of replayed.events) × (a ≡ [])) f.left f.rest (input_of (events_of asked image is.g)) (same ∙ is.text) more replayed.input in
     let events : replayed.events ≡ events_of asked image is.g =
@@ -99,5 +99,5 @@ holds_traced one input replay tells t f asked image ends left rest taken given r
       output = replayed.output;
       final = final.state;
       volume = record { count = done.holds.count; each = done.holds.each };
-      holds = holds_whole f.bytes final.state q.seated q.whole (replayed.ran.holds known);
+      holds = holds_whole f.bytes final.state q.seated q.whole (replayed.ran.holds (subst (λ (es : List Event). KeepsNone es) (sym events) tt) known);
     }

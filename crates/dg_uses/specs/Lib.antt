@@ -1,6 +1,8 @@
 pub mod Answers
+pub mod Checkpoints
 pub mod Drilled
 pub mod LostFiles
+pub mod Mirrors
 pub mod Promises
 pub mod Replays
 pub mod Saves

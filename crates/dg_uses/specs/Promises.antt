@@ -9,8 +9,8 @@ use Rattle.dg_run.specs.Replays.{Ran, TellsBoundaries}
 use Rattle.dg_saved.specs.Saved.{HasSource}
 
 -- of each member of the array the rack still tells the bytes, as long as the member stands, at the end of the run
-abbrev pub IsToldAtEnd : {before now : Counts} {images bytes : ℕ → Option (List ℕ)} {events : List Event} {replies : List Reply}
-    (tells : ℕ → Type 0) → Ran before now images bytes tells events replies → Type 0
+abbrev pub IsToldAtEnd : {before now : Counts} {images bytes : ℕ → Option (List ℕ)} {steady : Type 0} {events : List Event} {replies : List Reply}
+    (tells : ℕ → Type 0) → Ran before now images bytes steady tells events replies → Type 0
 IsToldAtEnd tells ran = TellsBoundaries tells ran.final.state
 
 -- the state in which the array was opened, with the counts of its members

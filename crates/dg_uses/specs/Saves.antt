@@ -1,5 +1,5 @@
 -- A call on what is left of a saved array, after members were taken away. The rules are this project's own.
-use Rattle.std.specs.Prelude.{◌≡◌, ◌++◌, ◌∷◌, ℕ, false, List, [], Option, None}
+use Rattle.std.specs.Prelude.{◌≡◌, ◌⊎◌, ◌<◌, ◌++◌, ◌∷◌, ℕ, false, List, [], Option, None, IfSome}
 use Rattle.dg_io.specs.Told.{Told, Took}
 use Rattle.dg_kept.specs.Opened.{AreTold}
 use Rattle.dg_kept.specs.Saved.{Save}
@@ -20,6 +20,7 @@ use Rattle.dg_run.specs.Endings.{GaveLines}
 use Rattle.dg_run.specs.Opened.{opened_moment}
 use Rattle.dg_run.specs.Replays.{HoldsInUse}
 use Rattle.dg_saved.specs.Calls.{Facts as SavedFacts}
+use Rattle.dg_stop.specs.Headers.{HasNoHeader, IsLabeled}
 use Rattle.dg_text.specs.Lines.{input_of}
 use Rattle.dg_text.specs.Replies.{output_of}
 use Rattle.dg_uses.specs.Answers.{TellsEach}
@@ -31,6 +32,15 @@ pub record IsFoundAgain (old : State) (number : ℕ) (last : State) (held : ℕ 
   pub left : LeavesSave old number last held save
   pub away : AreTakenAway save last held images
   pub tells : TellsEach bytes
+
+-- no member that begins without a label has the header of an array that keeps a checkpoint
+abbrev pub HaveNoHeaders : (ℕ → Option (List ℕ)) → Type 0
+HaveNoHeaders images = (q : ℕ) → q < 32 → IfSome (images q) (λ all. IsLabeled all ⊎ HasNoHeader q all)
+
+-- nothing is kept beside the state, and there is no room for it
+pub record KeepsNothing (facts : SavedFacts) : Type 0 where
+  pub extra : facts.extra ≡ []
+  pub room : facts.room ≡ None
 
 -- The array was opened from members with these bytes, by a rack that had these counts before, and no count of faults rose.
 pub record IsOpenedFrom (images : ℕ → Option (List ℕ)) (before : Counts) (state : State) : Type 0 where

@@ -12,8 +12,8 @@ use dg_run::{Status, run};
 use dg_text::input_is_unique;
 use std::alloc::Global;
 
-/// Replays lines. Where all are done, each member behind the boundaries of the first line has the bytes that it had, where it tells them; and the text
-/// kept to the budget.
+/// Replays lines. Where all are done, each member behind the boundaries of the first line, `array` or `safe`, has the bytes that it had, where it tells them;
+/// and the text kept to the budget.
 pub fn replay_beside_others<S: Source, K: Sink, R: Rack>(
     alloc: Global,
     words: &Vec<String>,
@@ -24,6 +24,9 @@ pub fn replay_beside_others<S: Source, K: Sink, R: Rack>(
     requires { IsCommand (map string_bytes words.now.items) Command.Replay }
     ensures others { (shape : Shape) (events : List Event) → AreInPlace (Event.Array shape ∷ events)
         → S.left source.old ≡ Some (input_of (Event.Array shape ∷ events)) → IsSome (S.left source.new) → result ≡ Status.Done
+        → (q : ℕ) → shape.b ≤ q / 2 → Told IsSame (R.bytes rack.old q) (R.bytes rack.new q) }
+    ensures safe { (shape : Shape) (events : List Event) → AreInPlace (Event.Safe shape ∷ events)
+        → S.left source.old ≡ Some (input_of (Event.Safe shape ∷ events)) → IsSome (S.left source.new) → result ≡ Status.Done
         → (q : ℕ) → shape.b ≤ q / 2 → Told IsSame (R.bytes rack.old q) (R.bytes rack.new q) }
     ensures budget { (text : List ℕ) → S.left source.old ≡ Some text → IsSome (S.left source.new) → result ≡ Status.Done → length text ≤ 2 ^ 40 }
 {

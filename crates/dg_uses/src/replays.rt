@@ -1,6 +1,6 @@
 // Replays between objects in memory.
 ghost use Rattle.std.specs.Prelude.{◌≡◌, ◌≤◌, ◌+◌, [], IfOk, Some, codes, length, map, string_bytes};
-ghost use Rattle.dg_io.specs.Racks.{counts_in, member_in, told_in};
+ghost use Rattle.dg_io.specs.Racks.{counts_in, member_in, steady_in, told_in};
 ghost use Rattle.dg_io.specs.SinkLines.{LeavesLines, MayWrite};
 ghost use Rattle.dg_io.specs.Sinks.{sink_calls, taken_in};
 ghost use Rattle.dg_io.specs.SourceReads.{LeavesSource};
@@ -18,7 +18,7 @@ use std::alloc::Global;
 // Bytes of a member of the array 1024 64 4 32 2, and of all replies.
 const LENGTH: u64 = 35_817;
 
-const OUTPUT: usize = 256;
+pub const OUTPUT: usize = 256;
 
 /// A replay that came to its end: how, and what its objects hold then.
 #[derive(Drop)]
@@ -29,8 +29,8 @@ pub struct Replay {
     pub rack: MemRack,
 }
 
-// The words of a replay.
-fn replay_words(alloc: Global) -> Result<Vec<String>, NoMemory>
+/// The words of a replay.
+pub fn replay_words(alloc: Global) -> Result<Vec<String>, NoMemory>
     ensures { IfOk result (λ words. IsCommand (map string_bytes words.items) Command.Replay) }
 {
     let mut words = Vec::new(alloc);
@@ -44,7 +44,7 @@ fn replay_words(alloc: Global) -> Result<Vec<String>, NoMemory>
 }
 
 /// Runs a replay.
-fn run_replay(
+pub fn run_replay(
     alloc: Global,
     words: &Vec<String>,
     source: &mut MemSource,
@@ -52,14 +52,14 @@ fn run_replay(
     rack: &mut MemRack,
 ) -> Status
     requires { IsCommand (map string_bytes words.now.items) Command.Replay }
-    ensures done { result ≡ Status.Done → Replayed (counts_in rack.old) (counts_in rack.new) (member_in rack.old) (member_in rack.new) (told_in rack.new)
-        (Some (left_in source.old)) (Some (left_in source.new)) (Some (taken_in sink.old)) (Some (taken_in sink.new)) }
-    ensures bad_line { result ≡ Status.BadLine → Stopped (counts_in rack.old) (counts_in rack.new) (member_in rack.old) (member_in rack.new) (told_in rack.new)
-        (Some (left_in source.old)) (Some (left_in source.new)) (Some (taken_in sink.old)) (Some (taken_in sink.new)) }
-    ensures part { result ≡ Status.WriteFault → IsCut (counts_in rack.old) (counts_in rack.new) (member_in rack.old) (member_in rack.new) (told_in rack.new)
-        (Some (left_in source.old)) (Some (left_in source.new)) (Some (taken_in sink.old)) (Some (taken_in sink.new)) }
-    ensures broke { result ≡ Status.ReadFault → BrokeOff (counts_in rack.old) (counts_in rack.new) (member_in rack.old) (member_in rack.new) (told_in rack.new)
-        (Some (left_in source.old)) (Some (left_in source.new)) (Some (taken_in sink.old)) (Some (taken_in sink.new)) }
+    ensures done { result ≡ Status.Done → Replayed (counts_in rack.old) (counts_in rack.new) (member_in rack.old) (member_in rack.new)
+        (steady_in rack.old) (told_in rack.new) (Some (left_in source.old)) (Some (left_in source.new)) (Some (taken_in sink.old)) (Some (taken_in sink.new)) }
+    ensures bad_line { result ≡ Status.BadLine → Stopped (counts_in rack.old) (counts_in rack.new) (member_in rack.old) (member_in rack.new)
+        (steady_in rack.old) (told_in rack.new) (Some (left_in source.old)) (Some (left_in source.new)) (Some (taken_in sink.old)) (Some (taken_in sink.new)) }
+    ensures part { result ≡ Status.WriteFault → IsCut (counts_in rack.old) (counts_in rack.new) (member_in rack.old) (member_in rack.new)
+        (steady_in rack.old) (told_in rack.new) (Some (left_in source.old)) (Some (left_in source.new)) (Some (taken_in sink.old)) (Some (taken_in sink.new)) }
+    ensures broke { result ≡ Status.ReadFault → BrokeOff (counts_in rack.old) (counts_in rack.new) (member_in rack.old) (member_in rack.new)
+        (steady_in rack.old) (told_in rack.new) (Some (left_in source.old)) (Some (left_in source.new)) (Some (taken_in sink.old)) (Some (taken_in sink.new)) }
     ensures lines { (result ≡ Status.WriteFault → ⊥) → LeavesLines 255 (λ s. Unit {0}) sink_calls (λ s. Some (taken_in s)) sink.old sink.new }
     ensures reads { LeavesSource source_calls (λ s. Some (left_in s)) 1 source.old source.new }
 {

@@ -1,7 +1,7 @@
 // Words that are no command, and a command that reads no input.
-ghost use Rattle.std.specs.Prelude.{◌≡◌, IfOk, List, ℕ, Some};
+ghost use Rattle.std.specs.Prelude.{◌≡◌, ◌≤◌, IfOk, List, ℕ, Some};
 ghost use Rattle.dg_io.specs.Racks.{counts_in};
-ghost use Rattle.dg_io.specs.Sinks.{sure_taken};
+ghost use Rattle.dg_io.specs.Sinks.{sure_calls as calls_of_sink, sure_taken};
 ghost use Rattle.dg_io.specs.Sources.{sure_calls};
 ghost use Rattle.dg_text.specs.Replies.{usage};
 
@@ -10,10 +10,11 @@ use dg_io::{MemRack, NoMemory, SureSink, SureSource};
 use dg_run::{Status, run};
 use std::alloc::Global;
 
-/// No words are no command: the usage line is printed, and no call on a member is made. No memory is wanting for it.
+/// No words are no command: the usage line is printed, by one call of the sink at most, and no call on a member is made. No memory is wanting for it.
 pub fn refuse_no_words(alloc: Global) -> Result<Answer, NoMemory>
     ensures answer { IfOk result (λ end. end.status ≡ Status.Usage) }
     ensures printed { IfOk result (λ end. (text : List ℕ) → sure_taken end.sink ≡ Some text → text ≡ usage) }
+    ensures once { IfOk result (λ end. (text : List ℕ) → sure_taken end.sink ≡ Some text → calls_of_sink end.sink ≤ 1) }
     ensures calls { IfOk result (λ end. (counts_in end.rack).calls ≡ 0) }
 {
     let words = Vec::new(alloc);

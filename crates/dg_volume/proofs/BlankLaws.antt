@@ -168,6 +168,7 @@ module _ {R : Type 0} (rack : Ghosts R) (shape : Shape) (before : R) (volume : V
     tells = blank.stays.tells;
     told_before = blank.stays.told_before;
     own = blank.own;
+    nothing = blank.nothing;
     same_rack = blank.stays.same_rack;
     state = start;
     blank = start_blank;

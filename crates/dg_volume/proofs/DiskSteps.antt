@@ -1,8 +1,9 @@
 -- A volume makes a step by the loss and the mending of a single disk.
-use Rattle.std.proofs.Common.{◌≡◌, ◌∙◌, ◌+◌, ◌*◌, ℕ, Bool, true, false, List, inl, inr, refl, sym, ap, subst, arith}
+use Rattle.std.proofs.Common.{◌≡◌, ◌∙◌, ◌<◌, ◌+◌, ◌*◌, ℕ, Bool, true, false, List, inl, inr, length, refl, sym, ap, subst, arith}
 use Rattle.std.specs.Prelude.{Option, Some}
 use Rattle.std.proofs.lemmas.Bool.{false≢true}
 use Rattle.dg_io.specs.declared.outside.Rack.{Ghosts}
+use Rattle.dg_model.specs.Lives.{place_in}
 use Rattle.dg_model.specs.Members.{IsStruck, is_lost}
 use Rattle.dg_model.specs.Seals.{label_after}
 use Rattle.dg_model.specs.States.{Counts, CountsRise, State}
@@ -21,7 +22,7 @@ use Rattle.dg_volume.proofs.UseLaws.{HasPlace, lost_in, lost_of, own_member}
 use Rattle.dg_volume.proofs.VolumeLaws.{steps_from}
 use Rattle.dg_volume.specs.Disks.{HandlesDisk, LeavesDisks, place_of}
 use Rattle.dg_volume.specs.Regroups.{GoesOn}
-use Rattle.dg_volume.specs.Volumes.{IsWell, Known, StandsFor, StandsIn, StandsUnder, StepsTo, line_of, members_of, rack_of, state_of}
+use Rattle.dg_volume.specs.Volumes.{IsWell, Known, StandsFor, StandsIn, StandsUnder, StepsTo, line_of, live_of, members_of, rack_of, state_of}
 use Rattle.dg_volume.specs.declared.phases.InPhase as phases
 use Rattle.dg_volume.specs.declared.volumes.Volume.{Volume}
 
@@ -33,7 +34,11 @@ module _ {S R : Type 0} (phase : phases.Ghosts S) (rack : Ghosts R) where
 
   -- ---- a call on disk j of boundary t, which is at place s
 
-  module _ (width : R → Option ℕ) (groups : R → ℕ) (a : Volume S R) (store : Store R) (t s j : ℕ) (well : IsWell phase rack a) (place : HasPlace a t s) where
+  module _ (width : R → Option ℕ) (groups : R → ℕ) (a : Volume S R) (store : Store R) (t s j : ℕ) (well : IsWell phase rack a)
+      (number : t < a.in_use.boundaries) (is : place_in (live_of a) t ≡ s) (within : s < length (live_of a)) where
+    place : HasPlace a t s
+    place = record { number = number; is = is; within = omega (arith, within, well.in_use.number) }
+
     abbrev after : Volume S R
     after = record a { store = store }
 
@@ -49,10 +54,10 @@ module _ {S R : Type 0} (phase : phases.Ghosts S) (rack : Ghosts R) where
           record { well = well_told phase rack a store told well; boundaries = refl; line = line_told phase rack a store told; calls = omega (arith, calls); writes = omega (arith, writes) }
 
       pub disks_left : (n : ℕ) → Some n ≡ width (rack_of a) → LeavesDisks rack width groups t j a after
-      disks_left n is = record {
+      disks_left n some = record {
         fails = fails;
         array = subst (λ (k : ℕ). HandlesDisk rack width groups k j fails a.store store) (sym place.is) h;
-        idle = λ none. absurd (cc (is, none));
+        idle = λ none. absurd (cc (some, none));
       }
 
       -- the state that it is in then, where the member may fail

@@ -670,6 +670,7 @@ module _ (one : OneOwner) (none : NoSystem) {R : Type 0} (rack : Ghosts R) (befo
     is_source = found.is_source;
     table = table_saved;
     first = stores.members_of start;
+    stood = λ q in_use. record { mid = stores.rack_of start; made = found.leaves.made; stands = found.sound.stand q in_use };
     first_are = λ q. elim (found.out q) [ inl good ↦ inl (good, found.good q good) | inr out ↦ inr out.0 ];
     fell = failed_out;
     others = λ q past.

@@ -515,6 +515,7 @@ module _ {R : Type 0} (rack : Ghosts R) where
         mid = m.store;
         left = b.store;
         opened = h.unsealed.opening.array.stays;
+        falls = h.unsealed.opening.array.falls;
         leaves = h.out.array.leaves;
         rest = h.out.array.rest;
         below = h.out.array.below;

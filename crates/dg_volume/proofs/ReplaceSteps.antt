@@ -21,6 +21,7 @@ use Rattle.dg_model.specs.declared.members.MemberState.TheVariants.{Filling, Goo
 use Rattle.dg_model.specs.declared.shapes.Shape.{Shape}
 use Rattle.dg_model.specs.declared.replies.Reply.TheVariants.{Done, Failed as FailedReply, Lost as LostReply, NotOut as NotOutReply}
 use Rattle.dg_pair.specs.Calls.{replaced}
+use Rattle.dg_pair.specs.Kept.{BlanksBy}
 use Rattle.dg_pair.specs.declared.boundaries.ReplaceAnswer.{ReplaceAnswer}
 use Rattle.dg_pair.specs.declared.boundaries.ReplaceAnswer.TheVariants.{Failed, Lost, NotOut, Replaced}
 use Rattle.dg_store.specs.Leaves.{BytesChange, FaultRose, IsCallOrBlankBelow, OnlyBytesOf, OnlyFaultsOf}
@@ -47,7 +48,7 @@ use Rattle.dg_volume.proofs.LabelLaws.{
 use Rattle.dg_volume.proofs.VolumeLaws.{IsBeside, KeepsBy, Labels, kept_state, label_by, leaves, on_label, quiet_in, same_in, stays, steps_from, still_in}
 use Rattle.dg_volume.proofs.VolumeSteps.{false_of}
 use Rattle.dg_volume.specs.Faults.{OutsStay, TellsFaults, faults_of}
-use Rattle.dg_volume.specs.Refills.{NotesAnew, replace_reply, replaced_as}
+use Rattle.dg_volume.specs.Refills.{EndsReplacement, NotesAnew, replace_reply, replaced_as}
 use Rattle.dg_volume.specs.Seals.{OpensWhere, Relabels}
 use Rattle.dg_volume.specs.Volumes.{HasLabel, IsWell, Known, LeavesBy, StandsFor, StandsIn, StandsUnder, StepsTo, line_of, marks_by, members_of, rack_of, shape_of, state_of, table_of}
 use Rattle.dg_volume.specs.declared.phases.InPhase as phases
@@ -84,6 +85,13 @@ replaced_failed e = cc e
 
 lost_stood : Lost ≡ NotOut → ⊥
 lost_stood e = cc e
+
+-- what the answer of the array says of what is kept
+pub replacement_ends : {R : Type 0} (rack : Ghosts R) (member : ℕ) (answer : ReplaceAnswer) (before now : R) → BlanksBy rack member answer before now → EndsReplacement rack member (replaced_as answer) before now
+replacement_ends rack member Replaced before now is = is
+replacement_ends rack member Failed before now is = is
+replacement_ends rack member Lost before now is = is
+replacement_ends rack member NotOut before now is = is
 
 -- a member that is as long as format 2 says of the line has room for the slots
 pub line_enough : (line shape : Shape) → IsLineOf line shape → member_length 1 shape ≤ member_length 2 line

@@ -11,6 +11,7 @@ use Rattle.dg_model.specs.Members.{is_filling, is_good, partner_of}
 use Rattle.dg_model.specs.Saves.{member_length}
 use Rattle.dg_model.specs.Seals.{LastLabel, label_after}
 use Rattle.dg_model.specs.States.{State}
+use Rattle.dg_model.specs.declared.events.Event.TheVariants.{Save}
 use Rattle.dg_model.specs.declared.members.MemberState.{MemberState}
 use Rattle.dg_model.specs.declared.members.MemberState.TheVariants.{Out}
 use Rattle.dg_model.specs.declared.replies.Reply.{Reply}
@@ -21,6 +22,7 @@ use Rattle.dg_store.specs.Leaves.{IsCallOrExtendBelow}
 use Rattle.dg_store.specs.Stores.{IsSound, IsWhole, KeepsBlocks}
 use Rattle.dg_store.specs.Stores as stores
 use Rattle.dg_store.specs.declared.store.Store.{Store}
+use Rattle.dg_volume.specs.Copies.{StepsHot}
 use Rattle.dg_volume.specs.Origins.{Origin, WasHeld}
 use Rattle.dg_volume.specs.Volumes.{LeavesBy, StandsIn, cut_of, live_of, members_of, rack_of, shape_of}
 use Rattle.dg_volume.specs.declared.commits.CheckpointAnswer.{CheckpointAnswer}
@@ -107,16 +109,19 @@ pub record CannotSave {S R : Type 0} (room : R → Option ℕ) (volume : Volume 
   pub reduced : length (live_of volume) < volume.in_use.boundaries
 
 -- What was kept behind a save: the bytes of the members that were good then, and what stood beside the state before it. The boundaries in use are
--- those behind the save.
-pub record KeepsSaved {S R : Type 0} (phase : phases.Ghosts S) (rack : Ghosts R) (room : R → Option ℕ) (goes : R → R → Type 0) (old new : Volume S R) : Type 0 where
+-- those behind the save, which is a step of its own. `hot` are the files that were read last.
+pub record KeepsSaved {S R : Type 0} (phase : phases.Ghosts S) (rack : Ghosts R) (room : R → Option ℕ) (goes : R → R → Type 0) (hot : List ℕ) (old new : Volume S R) : Type 0 where
   pub mid : Volume S R
   pub answer : CommitAnswer
+  pub sequence : ℕ
   pub saved : LeavesBy phase phase rack IsCallOrExtendBelow old mid
+  pub steps : StepsHot phase phase rack hot old Save (SavedReply sequence) mid
   pub commits : CommitsArray rack room goes (extra_bytes (extra_of old)) answer mid.store new.store
   pub live : live_of new ≡ live_of mid
 
 -- By the answer. Where the save itself left no good member, nothing was kept anew.
-abbrev pub KeepsBy : {S R : Type 0} → phases.Ghosts S → Ghosts R → (R → Option ℕ) → (R → R → Type 0) → Volume S R → Volume S R → CheckpointAnswer → Type 0
-KeepsBy phase rack room goes old new (Saved sequence) = KeepsSaved phase rack room goes old new × HasGood new.store
-KeepsBy phase rack room goes old new (Lost s) = LeavesBy phase phase rack IsCallOrExtendBelow old new ⊎ (KeepsSaved phase rack room goes old new × HasNoGood new.store)
-KeepsBy phase rack room goes old new NotSaved = new ≡ old
+abbrev pub KeepsBy : {S R : Type 0} → phases.Ghosts S → Ghosts R → (R → Option ℕ) → (R → R → Type 0) → List ℕ → Volume S R → Volume S R → CheckpointAnswer → Type 0
+KeepsBy phase rack room goes hot old new (Saved sequence) = (kept : KeepsSaved phase rack room goes hot old new) × (kept.sequence ≡ sequence) × HasGood new.store
+KeepsBy phase rack room goes hot old new (Lost s) =
+    LeavesBy phase phase rack IsCallOrExtendBelow old new ⊎ (KeepsSaved phase rack room goes hot old new × HasNoGood new.store)
+KeepsBy phase rack room goes hot old new NotSaved = new ≡ old

@@ -1,5 +1,5 @@
 -- What opening a saved array gives, by its answer.
-use Rattle.std.specs.Prelude.{◌≡◌, ◌⊎◌, ◌+◌, ◌/◌, ◌<◌, ◌≤◌, ℕ, Bool, true, false, List, Option, Some, None}
+use Rattle.std.specs.Prelude.{◌≡◌, ◌≢◌, ◌⊎◌, ◌+◌, ◌/◌, ◌<◌, ◌≤◌, ℕ, Bool, true, false, List, Option, Some, None}
 use Rattle.dg_infer.specs.Meanings.{KeptInference}
 use Rattle.dg_infer.specs.Meanings as inferences
 use Rattle.dg_io.specs.Makes.{Makes}
@@ -109,6 +109,12 @@ abbrev pub had : Option (List ℕ) → Option (List ℕ) → Option (List ℕ)
 had before None = None
 had before (Some now) = before
 
+-- a member stood at some moment of an opening
+pub record StoodOnce {R : Type 0} (rack : Ghosts R) (before : R) (q : ℕ) : Type 0 where
+  pub mid : R
+  pub made : Makes rack IsCallOfOpening before mid
+  pub stands : rack.stands mid q ≡ true
+
 -- What was opened of a rack, with this beside the saved state: its members were read as they stood before; nothing was written, the bytes beside the slots stay, and only
 -- members 0 to 31 were called; and this is the volume. `first` says what members did before blocks were read: one was good only where it
 -- may be. Of each list of blocks the volume is in a state that the model opens, the content of which is known where these held the blocks
@@ -129,6 +135,7 @@ pub record HasOpenedBeside {R : Type 0} (rack : Ghosts R) (reduced : Option Redu
   pub table : table_of volume ≡ saved.table
   pub first : ℕ → MemberState
   pub first_are : (q : ℕ) → ((first q ≡ Good) × MayBeGood taken label saved q) ⊎ (first q ≡ Out)
+  pub stood : (q : ℕ) → first q ≢ Out → StoodOnce rack before q
   pub fell : (q : ℕ) → (rack.counts before).faults q < (rack.counts (rack_of volume)).faults q → members_of volume q ≡ Out
   pub others : (q : ℕ) → (shape_of volume).b ≤ q / 2 → Told IsSame (rack.bytes before q) (rack.bytes (rack_of volume) q)
   pub falls : MembersFall (rack.counts before).faults (rack.counts (rack_of volume)).faults first (members_of volume)

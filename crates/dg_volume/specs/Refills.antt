@@ -1,14 +1,16 @@
 -- The replies that the answers of replacements and refills stand for, and what is reaped.
-use Rattle.std.specs.Prelude.{◌≡◌, ◌≢◌, ◌⊎◌, ℕ, Bool, true, false, List, length, None, Option, Result, Ok, Err, IfSome, IsSome}
+use Rattle.std.specs.Prelude.{◌≡◌, ◌≢◌, ◌⊎◌, ◌+◌, ◌*◌, ℕ, Bool, true, false, List, length, None, Option, Result, Ok, Err, IfSome, IsSome}
 use Rattle.std.specs.Bool.{Decides}
 use Rattle.dg_infer.specs.Meanings.{KeptInference}
 use Rattle.dg_infer.specs.Meanings as inferences
 use Rattle.dg_infer.specs.Wants.{IsWantBy}
+use Rattle.dg_io.specs.Makes.{Makes}
 use Rattle.dg_io.specs.declared.outside.Rack.{Ghosts}
 use Rattle.dg_label.specs.Labels.{NotesLong}
 use Rattle.dg_label.specs.Seals.{KeepsArray}
 use Rattle.dg_label.specs.declared.labels.KeptLabel.{KeptLabel}
 use Rattle.dg_model.specs.Blocks.{block_in, zeros}
+use Rattle.dg_model.specs.Lives.{place_in}
 use Rattle.dg_model.specs.Marks.{IsDead, is_marked}
 use Rattle.dg_model.specs.Members.{IsRefilled, is_lost}
 use Rattle.dg_model.specs.States.{has_lost}
@@ -20,15 +22,17 @@ use Rattle.dg_model.specs.declared.phases.Phase.TheVariants.{Worn}
 use Rattle.dg_model.specs.declared.replies.Reply.{Reply}
 use Rattle.dg_model.specs.declared.replies.Reply.TheVariants.{Copied as CopiedReply, Done, Failed as FailedReply, Lost as LostReply, NotFilling as NotFillingReply, NotOut as NotOutReply, Range as RangeReply}
 use Rattle.dg_model.specs.declared.wants.Want.TheVariants.{Stray}
+use Rattle.dg_pair.specs.Kept.{BlanksMember}
 use Rattle.dg_pair.specs.declared.boundaries.ReplaceAnswer as members
 use Rattle.dg_pair.specs.declared.boundaries.ReplaceAnswer.TheVariants.{Failed as MemberFailed, Lost as MemberLost, NotOut as MemberNotOut, Replaced as MemberReplaced}
 use Rattle.dg_rebuild.specs.Answers.{HasNoFilling}
 use Rattle.dg_rebuild.specs.declared.rebuilds.RebuildAnswer as refilled
 use Rattle.dg_rebuild.specs.declared.rebuilds.RebuildAnswer.TheVariants.{Copied as RefilledCopied, Failed as RefilledFailed, Lost as RefilledLost, NotFilling as RefilledNotFilling}
+use Rattle.dg_store.specs.Leaves.{IsCallBelow}
 use Rattle.dg_store.specs.Stores.{members_of, shape_of, table_of}
 use Rattle.dg_store.specs.declared.store.Store.{Store}
 use Rattle.dg_volume.specs.Seals.{Relabels}
-use Rattle.dg_volume.specs.Volumes.{StandsFor, Tells, marks_of}
+use Rattle.dg_volume.specs.Volumes.{StandsFor, Tells, live_of, marks_of, rack_of}
 use Rattle.dg_volume.specs.Volumes as volumes
 use Rattle.dg_volume.specs.declared.phases.InPhase as phases
 use Rattle.dg_volume.specs.declared.refills.RebuildAnswer.{RebuildAnswer}
@@ -86,6 +90,22 @@ told_of number (Err e) = Err e
 pub record NotesAnew (answer : members.ReplaceAnswer) (member : ℕ) (before after : Option KeptLabel) : Type 0 where
   pub noted : answer ≡ MemberReplaced → NotesLong member before after
   pub unnoted : answer ≢ MemberReplaced → after ≡ before
+
+-- by the answer to a replacement of a member: it was made anew, and of what the rack kept no more than its entry is gone; or nothing was done
+abbrev pub EndsReplacement : {R : Type 0} → Ghosts R → ℕ → ReplaceAnswer → R → R → Type 0
+EndsReplacement rack member Replaced before now = BlanksMember rack member before now
+EndsReplacement rack member Failed before now = BlanksMember rack member before now
+EndsReplacement rack member Range before now = now ≡ before
+EndsReplacement rack member Lost before now = now ≡ before
+EndsReplacement rack member NotOut before now = now ≡ before
+
+-- What a replacement of the member of a side of boundary s leaves of what a rack keeps. Calls that open the seal come first, and read or write alone. The
+-- rack knows the member by the place of its boundary among those in use; where that isn't in use, nothing was done.
+pub record KeepsReplaced {S R : Type 0} (rack : Ghosts R) (s side : ℕ) (answer : ReplaceAnswer) (old new : Volume S R) : Type 0 where
+  pub mid : R
+  pub opened : Makes rack (IsCallBelow (volumes.shape_of old).b) (rack_of old) mid
+  pub ends : EndsReplacement rack (2 * place_in (live_of old) s + side) answer mid (rack_of new)
+  pub unused : place_in (live_of old) s ≡ length (live_of old) → rack_of new ≡ rack_of old
 
 -- some member of boundary s is refilled
 pub record HasFilling (members : ℕ → MemberState) (s : ℕ) : Type 0 where

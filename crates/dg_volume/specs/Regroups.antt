@@ -4,7 +4,7 @@ use Rattle.dg_io.specs.Reduced.{LeavesLeft, places_left}
 use Rattle.dg_io.specs.declared.outside.Rack.{Ghosts}
 use Rattle.dg_label.specs.Lefts.{KeepsLeft as KeepsLabelLeft}
 use Rattle.dg_model.specs.Lives.{boundary_at}
-use Rattle.dg_model.specs.Members.{is_lost}
+use Rattle.dg_model.specs.Members.{MembersFall, is_lost}
 use Rattle.dg_model.specs.Moves.{count_upto}
 use Rattle.dg_model.specs.Regroups.{homes_left}
 use Rattle.dg_model.specs.Sites.{is_gone}
@@ -107,12 +107,13 @@ IsPhaseLeft rack old new pending (Settled settled) = ⊥
 
 -- ---- the answers
 
--- What became of an array of which boundaries were taken out of use: calls that opened a seal, then the same rack under the new places, and then
--- calls that read what is left.
+-- What became of an array of which boundaries were taken out of use: calls that opened a seal, in which a member went out only by a fault of its
+-- own, then the same rack under the new places, and then calls that read what is left.
 pub record TakesOut {R : Type 0} (rack : Ghosts R) (boundaries : R → ℕ) (dropped : R → ℕ → R → Type 0) (old new : Store R) : Type 0 where
   pub mid : Store R
   pub left : Store R
   pub opened : Stays rack old mid
+  pub falls : MembersFall (rack.counts (stores.rack_of old)).faults (rack.counts (stores.rack_of mid)).faults (stores.members_of old) (stores.members_of mid)
   pub leaves : LeavesLeft rack (left_in mid) (stores.rack_of mid) (stores.rack_of left)
   pub rest : boundaries (stores.rack_of left) + (stores.shape_of mid).b ≡ boundaries (stores.rack_of mid) + (stores.shape_of left).b
   pub below : dropped (stores.rack_of mid) (lost_bits (stores.members_of mid) (stores.shape_of mid).b) (stores.rack_of left)

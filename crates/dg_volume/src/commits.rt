@@ -219,7 +219,7 @@ impl<S: InPhase, R: Checkpoint> Volume<S, R> {
         ensures on { GoesOn S.InPhase R.Rack self.old self.new }
         ensures steps { IfOk result (λ answer. StepsHot S.InPhase S.InPhase R.Rack hot.now self.old Event.Save (checkpoint_reply answer) self.new) }
         ensures not_saved { IfOk result (λ answer. (answer ≡ CheckpointAnswer.NotSaved) ↔ CannotSave R.room_of self.old) }
-        ensures kept { IfOk result (KeepsBy S.InPhase R.Rack R.room_of R.commits self.old self.new) }
+        ensures kept { IfOk result (KeepsBy S.InPhase R.Rack R.room_of R.commits hot.now self.old self.new) }
         ensures err { OnErr result (LeavesBy S.InPhase S.InPhase R.Rack IsCallOrExtendBelow self.old self.new × KeepsArray R.Rack self.old self.new) }
         ensures given { given_of self.new ≡ given_of self.old }
     {

@@ -8,7 +8,8 @@ ghost use Rattle.dg_model.specs.declared.shapes.Shape.{Shape};
 ghost use Rattle.dg_rebuild.specs.Answers.{HasNoFilling};
 ghost use Rattle.dg_store.specs.Stores.{IsSound, members_of, table_of};
 ghost use Rattle.dg_store.specs.Stores as stores;
-ghost use Rattle.dg_volume.specs.Refills.{AreDeadMarks, AreReapMarks, HasFilling, IsDeadMark, NotesAnew, OpensRefill, SparesFiles, rebuild_reply, rebuilt_at, replace_reply, replaced_as, told_of};
+ghost use Rattle.dg_volume.specs.Refills.{AreDeadMarks, AreReapMarks, HasFilling, IsDeadMark, KeepsReplaced, NotesAnew, OpensRefill, SparesFiles};
+ghost use Rattle.dg_volume.specs.Refills.{rebuild_reply, rebuilt_at, replace_reply, replaced_as, told_of};
 ghost use Rattle.dg_store.specs.Leaves.{IsCallOrBlankBelow};
 ghost use Rattle.dg_volume.specs.Volumes.{FitsArray, IsWell, Leaves, LeavesBy, given_of, StepsSized, StepsTo};
 
@@ -237,6 +238,7 @@ impl<S: InPhase, R: Rack> Volume<S, R> {
         requires well { IsWell S.InPhase R.Rack self.old }
         ensures leaves { LeavesBy S.InPhase S.InPhase R.Rack IsCallOrBlankBelow self.old self.new }
         ensures steps { StepsTo S.InPhase S.InPhase R.Rack self.old (Event.Replace boundary side) (replace_reply boundary result) self.new }
+        ensures keeps { KeepsReplaced R.Rack boundary side result self.old self.new }
         ensures given { given_of self.new ≡ given_of self.old }
     {
         if boundary >= self.in_use.boundaries as u32 || side >= 2 {

@@ -1,10 +1,9 @@
 -- What calls leave of volumes over racks of groups of disks, and what calls on single disks ask of them.
-use Rattle.std.proofs.Common.{◌≡◌, ◌≢◌, ◌∙◌, ◌≤◌, ◌<◌, ◌+◌, ◌*◌, ◌/◌, ◌%◌, ◌==◌, ℕ, Bool, List, [], ap, arith, refl, subst, sym}
+use Rattle.std.proofs.Common.{◌≡◌, ◌≢◌, ◌≤◌, ◌+◌, ◌*◌, ◌/◌, ◌==◌, ℕ, List, [], ap, arith, refl, subst}
 use Rattle.std.specs.Prelude.{Option, Some, None, IfSome, if◌then◌else◌, length, slice_get}
 use Rattle.std.proofs.Math.Nat.{mul-add-mod_self_left}
 use Rattle.dg_io.specs.declared.outside.Rack.{Ghosts}
 use Rattle.dg_model.specs.Saves.{member_length}
-use Rattle.dg_model.specs.Shapes.{IsShape}
 use Rattle.dg_model.specs.declared.members.MemberState.{MemberState}
 use Rattle.dg_model.specs.declared.members.MemberState.TheVariants.{Filling, Good, Out}
 use Rattle.dg_model.specs.Tables.{Table}

@@ -24,6 +24,7 @@ use Rattle.dg_parity.specs.declared.parity_racks.ParityRack.{ParityRack}
 use Rattle.dg_parity.specs.declared.parity_racks.ParityRack.TheVariants.{OfGroups, Plain}
 use Rattle.dg_regroup.specs.LiveGhosts.{live}
 use Rattle.dg_regroup.specs.LiveMade.{calls_below}
+use Rattle.dg_regroup.specs.LivePlaces.{first_groups}
 use Rattle.dg_regroup.specs.LiveRacks.{DropsBoundaries, is_there, live_bytes, live_count, live_groups, live_in, live_left, live_width, rack_in}
 use Rattle.dg_regroup.specs.declared.live_racks.LiveRack.{LiveRack}
 use Rattle.dg_store.specs.Stores as stores
@@ -39,7 +40,7 @@ use Rattle.dg_volume.specs.declared.volumes.Volume.{Volume}
 use Rattle.dg_volume_tests.specs.Grouped.{IsOfLiveGroups}
 use Rattle.dg_volume_tests.proofs.GroupedLemmas.{new_groups, out_by, second_bytes}
 use Rattle.dg_volume_tests.proofs.LiveLemmas.{TellNames, all_ready}
-use Rattle.dg_volume_tests.proofs.PlaceLemmas.{first_groups, front_passes, left_below, left_front, no_longer}
+use Rattle.dg_volume_tests.proofs.PlaceLemmas.{front_passes, left_below, left_front, no_longer}
 use Rattle.dg_volume_tests.proofs.ReadyLemmas.{regrouped_ready, stays_ready}
 
 -- ---- what calls leave

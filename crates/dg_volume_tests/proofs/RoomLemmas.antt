@@ -1,5 +1,5 @@
 -- What calls leave of volumes of which `commit` may be called.
-use Rattle.std.proofs.Common.{◌≡◌, ◌∙◌, ◌≤◌, ◌+◌, ◌*◌, ℕ, List, ap, subst, sym}
+use Rattle.std.proofs.Common.{◌≡◌, ◌∙◌, ◌≤◌, ◌+◌, ◌*◌, ℕ, List, ap, refl, subst, sym}
 use Rattle.std.specs.Prelude.{IfSome, Option, Some}
 use Rattle.dg_io.specs.Makes.{Makes}
 use Rattle.dg_io.specs.Makes.Makes.{nothing as made_nothing, after as made_after}
@@ -12,9 +12,12 @@ use Rattle.dg_stop.specs.StopRacks.{IsNew, stop_room, stop_words}
 use Rattle.dg_stop.specs.Ties.{calls_room}
 use Rattle.dg_stop.specs.declared.stop_racks.StopRack.{StopRack}
 use Rattle.dg_stop.specs.declared.stop_racks.StopRack.TheVariants.{Doubled, Plain}
+use Rattle.dg_volume.specs.Besides.{AnswersOpenKept}
 use Rattle.dg_volume.specs.Commits.{Commits}
 use Rattle.dg_volume.specs.Regroups.{GoesOn}
-use Rattle.dg_volume.specs.Volumes.{IsBlankVolume, LeavesBy, loose_phase, rack_of, shape_of}
+use Rattle.dg_volume.specs.Volumes.{IsBlankVolume, LeavesBy, any_phase, loose_phase, rack_of, shape_of}
+use Rattle.dg_volume.specs.declared.opens.OpenAnswer.TheVariants.{Opened}
+use Rattle.dg_volume.specs.declared.phases.AnyPhase.{AnyPhase}
 use Rattle.dg_volume.specs.declared.phases.InPhase as phases
 use Rattle.dg_volume.specs.declared.phases.Loose.{Loose}
 use Rattle.dg_volume.specs.declared.volumes.Volume.{Volume}
@@ -64,3 +67,14 @@ blank_roomy rack shape below members most room before volume new few blank = rec
       (room_stays (stop_words rack) stop_room (calls_room rack) _ before (rack_of volume) blank.own.made ∙ new_room below members most room before new)
       (ap (λ (s : Shape). s.n) blank.shape_is) few;
 }
+
+-- a volume that was opened with what its rack keeps beside its state
+pub kept_roomy : {R : Type 0} (rack : Ghosts R) (room : R → Option ℕ) → LeavesRoom rack room → (before : R) (bytes : List ℕ) (volume : Volume AnyPhase R) (hot : List ℕ)
+    → AnswersOpenKept rack room before bytes (Opened volume hot) → HasRoom any_phase rack room volume
+kept_roomy rack room law before bytes volume hot opens =
+    let n = (shape_of volume).n in
+    let opened = opens.answers.opened in record {
+      well = opened.well;
+      stays = law;
+      enough = enough_for n n (room before) (room (rack_of volume)) (room_stays rack room law _ before (rack_of volume) opened.made) refl opens.answers.enough;
+    }

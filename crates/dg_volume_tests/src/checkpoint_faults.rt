@@ -76,8 +76,8 @@ fn byte_of<R: Rack>(volume: &mut Volume<AnyPhase, R>) -> Result<u8, Fail>
 
 /// The first byte of block 3 of the array that is kept, if there is one.
 fn kept_byte<R: Rack + Drop>(alloc: Global, rack: R) -> Result<Option<u8>, Fail> {
-    let (double, _extra) = StopRack::open(alloc, rack)?;
-    let live = LiveRack::of_all(alloc, double)?;
+    let opened = StopRack::open(alloc, rack)?;
+    let live = LiveRack::of_all(alloc, opened.rack)?;
     match open(alloc, live)? {
         OpenAnswer::Opened(mut volume, _) => Ok(Some(byte_of(&mut volume)?)),
         OpenAnswer::NoState(_) => Ok(None),

@@ -19,7 +19,7 @@ use std::test::Fail;
 // Bytes of a member of the array, and of one of the rack behind.
 const LENGTH: u64 = 22_000;
 
-const BEHIND: u64 = 48_000;
+pub const BEHIND: u64 = 48_000;
 
 // What stands beside the state of an array of eight blocks takes at most so many bytes.
 const ROOM: u32 = 30 + 4 * 8;
@@ -61,7 +61,7 @@ fn saves<R: Checkpoint>(alloc: Global, volume: &mut Volume<AnyPhase, R>) -> Resu
 }
 
 /// Keeps the state as it stands.
-fn commits<R: Checkpoint>(
+pub fn commits<R: Checkpoint>(
     alloc: Global,
     volume: &mut Volume<AnyPhase, R>,
 ) -> Result<CommitAnswer, Fail>
@@ -118,13 +118,13 @@ fn keep_times<R: Checkpoint>(
 }
 
 /// The same of a new array over a rack.
-fn keep_over<R: Rack + Drop>(alloc: Global, rack: R, times: u8) -> Result<(u8, u8), Fail> {
+pub fn keep_over<R: Rack + Drop>(alloc: Global, rack: R, times: u8) -> Result<(u8, u8), Fail> {
     let mut volume = blank(alloc, rack)?;
     keep_times(alloc, &mut volume, times)
 }
 
 /// The array that is opened with what its rack keeps, if there is one.
-fn opened<R: Checkpoint + Drop>(
+pub fn opened<R: Checkpoint + Drop>(
     alloc: Global,
     rack: R,
     beside: &[u8],
@@ -154,8 +154,8 @@ fn opened_byte<R: Checkpoint + Drop>(
 
 /// The same of the rack behind.
 fn kept_byte<R: Rack + Drop>(alloc: Global, rack: R) -> Result<Option<u8>, Fail> {
-    let (double, beside) = StopRack::open(alloc, rack)?;
-    opened_byte(alloc, double, &beside)
+    let opened = StopRack::open(alloc, rack)?;
+    opened_byte(alloc, opened.rack, &opened.extra)
 }
 
 /// Commits so many times over a rack in memory, of which so many calls fail from one on. How many commits were told, in how many of them a member

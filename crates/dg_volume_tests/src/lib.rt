@@ -6,6 +6,8 @@ mod calls;
 #[cfg(test)]
 mod checkpoint_faults;
 #[cfg(test)]
+mod cut_commits;
+#[cfg(test)]
 mod disk_faults;
 #[cfg(test)]
 mod double_commits;

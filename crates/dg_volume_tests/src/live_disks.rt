@@ -11,7 +11,9 @@ use dg_io::{MemRack, Rack};
 use dg_model::Shape;
 use dg_parity::ParityRack;
 use dg_regroup::{LiveRack, names_tell_boundaries};
-use dg_volume::{AnyPhase, DropDiskAnswer, MendDiskAnswer, RegroupAnswer, Volume, WriteAnswer};
+use dg_volume::{
+    AnyPhase, DropDiskAnswer, FailAnswer, MendDiskAnswer, RegroupAnswer, Volume, WriteAnswer,
+};
 use std::alloc::Global;
 use std::process::Abort;
 use std::test::Fail;
@@ -135,6 +137,14 @@ fn goes_on<R: Rack>(alloc: Global, volume: &mut Live<R>) -> Result<RegroupAnswer
     }
 }
 
+/// The first member of a boundary fails.
+fn fails<R: Rack>(volume: &mut Live<R>, boundary: u32) -> FailAnswer
+    requires { IsOfLiveGroups any_phase R.Rack volume.old }
+    ensures { IsOfLiveGroups any_phase R.Rack volume.new }
+{
+    volume.fail(boundary, 0)
+}
+
 /// The lost boundaries, by their places.
 fn lost<R: Rack>(volume: &Live<R>) -> u16
     requires { IsOfLiveGroups any_phase R.Rack volume.now }
@@ -193,6 +203,14 @@ const WITHOUT_BOTH: [Call; 5] = [
     Call::Mend(0, 0, MendDiskAnswer::NotOut),
 ];
 
+/// The group of boundary 0 is whole, and its member failed: its disks go out, and none comes back.
+const FAILED: [Call; 4] = [
+    Call::Mend(0, 0, MendDiskAnswer::Lost),
+    Call::Drop(0, 0, DropDiskAnswer::Dropped),
+    Call::Mend(0, 0, MendDiskAnswer::Lost),
+    Call::Drop(0, 0, DropDiskAnswer::Already),
+];
+
 /// The bytes without boundary 1, and without boundary 3, too. A block that was cut is gone until it is written.
 const FIRST: [Option<u8>; 8] = [
     Some(1),
@@ -232,6 +250,8 @@ fn lose_second<R: Rack>(rt: &impl Abort, alloc: Global, volume: &mut Live<R>) ->
     assert_eq!(rt; volume.live(), b"\x00\x02".as_slice());
     assert!(rt; answers(volume, &WITHOUT_BOTH));
     assert!(rt; has_blocks(volume, &SECOND)?);
+    assert_eq!(rt; fails(volume, 0), FailAnswer::Failed);
+    assert!(rt; answers(volume, &FAILED));
     Ok(())
 }
 

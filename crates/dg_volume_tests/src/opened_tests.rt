@@ -9,7 +9,7 @@ use crate::even_blocks::read_even;
 use dg_io::{Checkpoint, MemRack, Rack, Reduces};
 use dg_model::Shape;
 use dg_regroup::{FrontRack, LiveRack};
-use dg_stop::StopRack;
+use dg_stop::{Opened, StopRack};
 use dg_volume::{
     AnyPhase, CheckpointAnswer, Hot, OpenAnswer, Phase, RegroupAnswer, Volume, open_kept,
 };
@@ -88,7 +88,11 @@ fn live_over<R: Rack + Drop>(
     alloc: Global,
     rack: R,
 ) -> Result<(LiveRack<FrontRack<StopRack<R>>>, Vec<u8>), Fail> {
-    let (double, beside) = StopRack::open(alloc, rack)?;
+    let Opened {
+        rack: double,
+        extra: beside,
+        ..
+    } = StopRack::open(alloc, rack)?;
     let live = Vec::from_slice(alloc, b"\x00\x02")?;
     Ok((LiveRack::opened(double, live, SHORTER), beside))
 }

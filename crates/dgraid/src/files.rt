@@ -1,14 +1,21 @@
 // An open image file.
 use dg_save::{body_place, read_label};
+use dg_stop::{Header, read_header, table_len};
 use std::fs::{File, OpenOptions, TryLockError};
 use std::io::{self, ErrorKind};
 use std::os::unix::fs::{FileExt, MetadataExt};
 
-/// Bytes of the page at a member's front where its label stands.
-const LABEL: u64 = 512;
+/// Bytes of a page. A label is the first page of a member.
+const PAGE: u64 = 512;
 
-/// Bytes of the pages at a member's front that are its header, once it has a label.
-const HEADER: u64 = 1024;
+/// How the two headers begin of a member whose pages have two places each. They are the first two pages of its image.
+pub const HEADER: &[u8] = b"DGRAID-S";
+
+/// Where a header says which member it is of.
+const MEMBER: usize = 17;
+
+/// No member is so long.
+const LONG: u64 = 1 << 48;
 
 /// What the run is to do with the images.
 #[derive(Clone, Copy, PartialEq, Eq)]
@@ -36,7 +43,7 @@ pub enum Lock {
 #[derive(Clone, Copy, PartialEq, Eq)]
 pub enum Part {
     /// Its front, without a label.
-    Page,
+    Front,
     Label,
     /// The body that its label names.
     Body,
@@ -51,8 +58,9 @@ pub struct Image {
     length: u64,
     /// Why it was opened for reading alone, by the number of the system's error.
     denial: Option<i32>,
-    has_label: bool,
-    /// Where the body stands that its label names, once the label was read.
+    /// Where its pages begin, once headers were read by which each of them has two places.
+    pages: Option<u64>,
+    /// Where the body stands in the member that its label names, once the label was read.
     body: Option<u64>,
     /// Whether it was written to since its last flush.
     is_dirty: bool,
@@ -72,6 +80,52 @@ fn body_named_on(page: &[u8]) -> Option<u64> {
     Some(body_place(&label.shape))
 }
 
+/// Whether what is written at a place is a label or a header.
+pub fn is_header(place: u64, bytes: &[u8]) -> bool {
+    place < PAGE || place == PAGE && bytes.starts_with(HEADER)
+}
+
+/// The header that counts in place 0 or 1 of an image of so many bytes, by those at its front, whichever member it is of.
+fn header_at(front: &[u8], place: u64, length: u64) -> Option<Header> {
+    let at = place.saturating_mul(PAGE) as usize;
+    let page = front.get(at..)?.first_chunk()?;
+    read_header(page, place, page[MEMBER], length)
+}
+
+/// Where the pages begin behind such a header and the tables, each of which has two places.
+fn pages_behind(header: &Header) -> Option<u64> {
+    if header.size >= LONG {
+        return None;
+    }
+    let tables = table_len(header.size, header.room).saturating_mul(2);
+    Some(tables.saturating_add(2 * PAGE))
+}
+
+/// The same, by the two pages at the front of an image of so many bytes; `None` where no header counts.
+fn pages_named_on(front: &[u8], length: u64) -> Option<u64> {
+    match header_at(front, 0, length) {
+        Some(header) => pages_behind(&header),
+        None => pages_behind(&header_at(front, 1, length)?),
+    }
+}
+
+/// Whether the header of a commit that was made counts in a place.
+fn is_committed(front: &[u8], place: u64, length: u64) -> bool {
+    match header_at(front, place, length) {
+        Some(header) => header.committed,
+        None => false,
+    }
+}
+
+/// What stands at the front of an image of so many bytes: a committed header is the label of a member whose pages have two places.
+fn front_of(front: &[u8], length: u64) -> Part {
+    if is_committed(front, 0, length) || is_committed(front, 1, length) {
+        Part::Label
+    } else {
+        Part::Front
+    }
+}
+
 impl Image {
     // The image of a file that was opened.
     fn of(file: File, denial: Option<i32>) -> io::Result<Image> {
@@ -84,7 +138,7 @@ impl Image {
             },
             length: found.len(),
             denial,
-            has_label: true,
+            pages: None,
             body: None,
             is_dirty: false,
         })
@@ -139,7 +193,6 @@ impl Image {
 
     /// Makes so many zeros of it. It has the length before anything of it is cut off.
     pub fn make_blank(&mut self, length: u64) -> io::Result<()> {
-        self.has_label = false;
         self.is_dirty = true;
         self.file.set_len(length)?;
         if self.length > 0 {
@@ -157,27 +210,47 @@ impl Image {
     /// What the bytes are that were read at a place.
     pub fn part_read(&mut self, place: u64, bytes: &[u8]) -> Part {
         if place == 0 {
+            self.pages = pages_named_on(bytes, self.length);
+        }
+        let Some(at) = self.place_in_member(place) else {
+            return if place == 0 {
+                front_of(bytes, self.length)
+            } else {
+                Part::Front
+            };
+        };
+        if at == 0 {
             self.body = body_named_on(bytes);
             return match self.body {
                 Some(_) => Part::Label,
-                None => Part::Page,
+                None => Part::Front,
             };
         }
-        if self.body == Some(place) {
-            Part::Body
-        } else {
-            Part::Block
+        match self.body {
+            Some(body) if at >= body => Part::Body,
+            _ => Part::Block,
         }
     }
 
-    /// Writes at a place. Where that is in the header, what was written before is flushed first, and then the header: so the disk has
-    /// them in this order.
+    // Which place of the member stands at one of the image; none in the headers and tables of pages that have two places.
+    fn place_in_member(&self, place: u64) -> Option<u64> {
+        let Some(pages) = self.pages else {
+            return Some(place);
+        };
+        let behind = place.checked_sub(pages)?;
+        Some(
+            (behind / (2 * PAGE))
+                .saturating_mul(PAGE)
+                .saturating_add(behind % PAGE),
+        )
+    }
+
+    /// Writes at a place. Where that is a label or a header, what was written before is flushed first, and then it: so the disk has them in this order.
     pub fn write(&mut self, place: u64, buf: &[u8]) -> io::Result<()> {
         self.check_access()?;
-        let is_header = self.is_header(place);
+        let is_header = is_header(place, buf);
         if is_header {
             self.flush()?;
-            self.has_label = true;
         }
         self.is_dirty = true;
         self.file.write_all_at(buf, place)?;
@@ -189,11 +262,6 @@ impl Image {
         self.check_access()?;
         self.is_dirty = true;
         self.file.set_len(length)
-    }
-
-    // Whether what is written at a place is part of the header.
-    fn is_header(&self, place: u64) -> bool {
-        place < LABEL || self.has_label && place < HEADER
     }
 
     // Fails as opening it to be written failed.

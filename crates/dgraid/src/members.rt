@@ -1,12 +1,12 @@
 // The image files of the current folder, by the numbers of their members.
 use crate::aside::set_aside;
-use crate::files::{Image, Lock, Node, Part, Purpose};
+use crate::files::{HEADER, Image, Lock, Node, Part, Purpose, is_header};
 use crate::names::{MEMBERS, name_of, path_of};
 use crate::reports::report_member;
 use crate::searches::Search;
 use crate::system::longest_file;
 use dg_io::NoMemory;
-use std::fs::{self, File};
+use std::fs::{self, File, TryLockError};
 use std::io::{self, ErrorKind};
 
 /// The system's numbers of two errors, which are told as those that it gives itself.
@@ -25,6 +25,17 @@ enum Start {
     Blocked,
 }
 
+/// Whether the run has the lock of the folder.
+#[derive(Drop)]
+enum Hold {
+    /// It wasn't asked for yet.
+    Unasked,
+    /// It has it as long as the folder is open. `None` where folders can't be locked: then the images' own locks tell.
+    Taken(Option<File>),
+    /// Another run has it.
+    Refused,
+}
+
 /// What stands at a path.
 #[derive(Clone, Copy)]
 enum Found {
@@ -39,12 +50,15 @@ enum Found {
 pub struct Members<'a> {
     rt: HostRuntime,
     purpose: Purpose,
+    folder: Hold,
     images: Vec<Option<Image>>,
+    /// Whether the image of a member was looked for.
+    looked: [bool; MEMBERS as usize],
     start: Start,
     longest: u64,
     /// Whether files were made or renamed since the folder was flushed.
     has_new_names: bool,
-    /// Whether a label was written, and with it an image flushed.
+    /// Whether a label or a header was written, and with it an image flushed.
     has_labels: bool,
     search: &'a Search,
     /// Whether a saved array is looked for, and none is opened yet.
@@ -59,6 +73,22 @@ fn look_at(rt: HostRuntime, path: &str) -> io::Result<Found> {
         Ok(_) => Ok(Found::Other),
         Err(error) if error.kind() == ErrorKind::NotFound => Ok(Found::Nothing),
         Err(error) => Err(error),
+    }
+}
+
+/// Locks the folder: alone, or to read beside others who read.
+fn lock_folder(rt: HostRuntime, purpose: Purpose) -> Hold {
+    let Ok(folder) = File::open(&rt, ".") else {
+        return Hold::Taken(None);
+    };
+    let given = match purpose {
+        Purpose::Read => folder.try_lock_shared(),
+        Purpose::Write => folder.try_lock(),
+    };
+    match given {
+        Ok(()) => Hold::Taken(Some(folder)),
+        Err(TryLockError::WouldBlock) => Hold::Refused,
+        Err(TryLockError::Error(_)) => Hold::Taken(None),
     }
 }
 
@@ -83,7 +113,9 @@ impl<'a> Members<'a> {
         Ok(Members {
             rt,
             purpose,
+            folder: Hold::Unasked,
             images,
+            looked: [false; MEMBERS as usize],
             start: Start::Fresh,
             longest: longest_file(rt),
             has_new_names: false,
@@ -98,7 +130,9 @@ impl<'a> Members<'a> {
         if member >= MEMBERS {
             return Err(io::Error::new(ErrorKind::InvalidInput, "no such member"));
         }
+        self.begin();
         self.make_way()?;
+        self.check_folder()?;
         self.check_length(length)?;
         self.let_go(member);
         let mut image = Image::open_or_make(self.rt, path_of(&name_of(member))?)?;
@@ -114,22 +148,18 @@ impl<'a> Members<'a> {
         if member >= MEMBERS {
             return Ok(None);
         }
+        self.begin();
         self.start = Start::Begun;
         self.is_searching = true;
         self.let_go(member);
-        match self.find(member) {
-            Ok(None) => Ok(None),
-            Ok(Some(image)) => {
-                self.search.note_image();
-                let length = image.length();
-                self.put(member, image);
-                Ok(Some(length))
-            }
-            Err(error) => {
-                self.search.note_denied();
-                Err(error)
-            }
-        }
+        let found = self.find(member);
+        self.note_look(member, &found);
+        let Some(image) = found? else {
+            return Ok(None);
+        };
+        let length = image.length();
+        self.put(member, image);
+        Ok(Some(length))
     }
 
     pub fn read(&mut self, member: u8, place: u64, buf: &mut [u8]) -> io::Result<()> {
@@ -140,10 +170,14 @@ impl<'a> Members<'a> {
         Ok(())
     }
 
-    /// Writes at a place. New names are on the disk before the first label.
+    /// Writes at a place. New names are on the disk before the first label or header. A run that only reads writes just headers, those of a save that
+    /// was stopped when it was on some members alone. The next run that writes completes it; here that isn't done, and nothing reads them again.
     pub fn write(&mut self, member: u8, place: u64, buf: &[u8]) -> io::Result<()> {
         self.check_length(place.saturating_add(buf.len() as u64))?;
-        if place == 0 {
+        if is_header(place, buf) {
+            if self.purpose == Purpose::Read && buf.starts_with(HEADER) {
+                return Ok(());
+            }
             self.flush_names()?;
             self.has_labels = true;
         }
@@ -171,7 +205,7 @@ impl<'a> Members<'a> {
         matches!(self.images.get(member as usize), Some(Some(_)))
     }
 
-    /// Closes a member's image, if it is open. In a run that wrote a label, what was written to it since its last flush is flushed before,
+    /// Closes a member's image, if it is open. In a run that wrote a label or a header, what was written to it since its last flush is flushed before,
     /// and a failure is told: so an error that comes as late as this isn't lost.
     pub fn let_go(&mut self, member: u8) {
         let Some(place) = self.images.get_mut(member as usize) else {
@@ -191,6 +225,21 @@ impl<'a> Members<'a> {
     pub fn let_all_go(&mut self) {
         for member in 0..MEMBERS {
             self.let_go(member);
+        }
+    }
+
+    // Asks for the lock of the folder, once a run: so two runs that begin at the same time don't share out the members.
+    fn begin(&mut self) {
+        if let Hold::Unasked = self.folder {
+            self.folder = lock_folder(self.rt, self.purpose);
+        }
+    }
+
+    // Fails where another run has the folder.
+    fn check_folder(&self) -> io::Result<()> {
+        match self.folder {
+            Hold::Refused => Err(in_use()),
+            _ => Ok(()),
         }
     }
 
@@ -231,6 +280,7 @@ impl<'a> Members<'a> {
 
     // Opens an image that is there, and locks it. Two names of one file share the lock.
     fn open(&self, path: &str) -> io::Result<Image> {
+        self.check_folder()?;
         let image = Image::open(self.rt, path, self.purpose)?;
         match image.lock(self.purpose)? {
             Lock::Refused if !self.has(image.node()) => Err(in_use()),
@@ -265,6 +315,21 @@ impl<'a> Members<'a> {
         Ok(())
     }
 
+    // Notes for the search what a look for a member's image gave. An opening looks for it twice where no member has headers: that counts once.
+    fn note_look(&mut self, member: u8, found: &io::Result<Option<Image>>) {
+        let Some(looked) = self.looked.get_mut(member as usize) else {
+            return;
+        };
+        if !*looked {
+            match found {
+                Ok(None) => {}
+                Ok(Some(_)) => self.search.note_image(),
+                Err(_) => self.search.note_denied(),
+            }
+        }
+        *looked = true;
+    }
+
     // Notes for the search what was read.
     fn note_read(&mut self, member: u8, place: u64, buf: &[u8]) {
         let search = self.search;
@@ -272,7 +337,7 @@ impl<'a> Members<'a> {
             return;
         };
         match image.part_read(place, buf) {
-            Part::Page => {}
+            Part::Front => {}
             Part::Label => search.note_label(),
             Part::Body => search.note_body(),
             Part::Block => {

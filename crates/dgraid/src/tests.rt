@@ -41,6 +41,23 @@ fn image_files_keep_bytes(rt: HostRuntime) -> Result<(), Fail> {
     Ok(())
 }
 
+#[test]
+fn a_run_that_reads_completes_no_header(rt: HostRuntime) -> Result<(), Fail> {
+    let search = Search::new();
+    let mut rack = ImageRack::new(rt, Purpose::Write, &search)?;
+    rack.blank(29, 1024)?;
+    drop(rack);
+    let mut rack = ImageRack::new(rt, Purpose::Read, &search)?;
+    assert_eq!(rt; rack.attach(29), Ok(Some(1024)));
+    assert_eq!(rt; rack.write(29, 512, b"DGRAID-S"), Ok(()));
+    assert_eq!(rt; rack.write(29, 512, b"a slot"), Err(Failed));
+    drop(rack);
+    let all = fs::read(&rt, "member-14-1.img")?;
+    fs::remove_file(&rt, "member-14-1.img")?;
+    assert_eq!(rt; all.as_slice(), [0; 1024].as_slice());
+    Ok(())
+}
+
 // The program's stored run reads and writes more.
 #[test]
 fn standard_streams_are_called(rt: HostRuntime) -> Result<(), Fail> {

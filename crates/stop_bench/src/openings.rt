@@ -1,7 +1,7 @@
 // What an opening of two members gives.
 use crate::callers::commits;
 use dg_io::{Checkpoint, CommitAnswer, MemRack, NoMemory, Rack};
-use dg_stop::StopRack;
+use dg_stop::{Opened, StopRack};
 use std::alloc::Global;
 
 /// What is told of bytes.
@@ -85,7 +85,11 @@ type Parts = (u32, Vec<u8>, Totals);
 
 /// Opens a rack. `None` where that gives a plain one.
 fn opens<R: Rack + Drop>(alloc: Global, rack: R) -> Result<Option<Parts>, NoMemory> {
-    let (mut rack, extra) = StopRack::open(alloc, rack)?;
+    let Opened {
+        mut rack,
+        extra,
+        ..
+    } = StopRack::open(alloc, rack)?;
     let Some(room) = rack.room() else {
         return Ok(None);
     };
@@ -95,8 +99,8 @@ fn opens<R: Rack + Drop>(alloc: Global, rack: R) -> Result<Option<Parts>, NoMemo
 
 /// Opens a rack, and commits the members that stand.
 fn next<R: Rack + Drop>(alloc: Global, rack: R) -> Result<Option<u64>, NoMemory> {
-    let (mut rack, _) = StopRack::open(alloc, rack)?;
-    match commits(&mut rack, b"") {
+    let mut opened = StopRack::open(alloc, rack)?;
+    match commits(&mut opened.rack, b"") {
         CommitAnswer::Committed { sequence, .. } => Ok(Some(sequence)),
         CommitAnswer::Lost => Ok(None),
     }

@@ -38,3 +38,9 @@ returns-in-End-clause-goes g c = continues_none g.R.Rack g.met.R.Rack.made_none 
 
 pub returns-in-Refused-clause-goes : goal.returns-in-Refused-clause-goes
 returns-in-Refused-clause-goes g c = continues_none g.R.Rack g.met.R.Rack.made_none g.met.R.Rack.made_both g.met.R.Rack.after c.args.array.now c.requires.ready
+
+pub returns-in_ok-serve-in-Event-clause-turn_reads : goal.returns-in_ok-serve-in-Event-clause-turn_reads
+returns-in_ok-serve-in-Event-clause-turn_reads g c = rw c.in-Event.is at c.in_ok-event.ensures.taken_reads
+
+pub returns-in_err-serve-in-Event-clause-lines : goal.returns-in_err-serve-in-Event-clause-lines
+returns-in_err-serve-in-Event-clause-lines g c none = c.in_err-serve-in-Event.ensures.lines (λ at. none (search (rules, at)))

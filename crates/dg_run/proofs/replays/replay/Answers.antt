@@ -1,103 +1,108 @@
-use Rattle.std.proofs.Common.{◌≡◌, ◌∙◌, ◌^◌, ℕ, List, ap, refl, subst}
+use Rattle.std.proofs.Common.{◌≡◌, ◌∙◌, ◌^◌, ℕ, List, ap, refl, subst, sym}
 use Rattle.std.specs.Prelude.{Err, None, Option}
-use Rattle.dg_model.specs.declared.events.Event.TheVariants.{Array as MakeArray}
 use Rattle.dg_io.specs.Told.{Told}
-use Rattle.dg_text.specs.Lines.{IsInPlace, longest}
+use Rattle.dg_text.specs.Lines.{longest}
 use Rattle.dg_run.specs.Events.{Begins}
 use Rattle.dg_run.specs.declared.events.Fault.TheVariants.{Read as FaultRead, NoMemory as FaultNoMemory}
 use Rattle.dg_run.specs.Inputs.{unread, ahead}
 use Rattle.dg_run.specs.Replays.{BrokeOff, IsCut, Ran, RanOut}
+use Rattle.dg_run.specs.Starts.{first_line}
 use Rattle.dg_run.proofs.Breaks.{awaits_left}
 use Rattle.dg_run.proofs.Broken.{broke_off_first, fresh_is, ran_out_next, wants_array}
+use Rattle.dg_run.proofs.Making.{line_makes}
 use Rattle.dg_run.proofs.Whole.{IfOk-map, empty_part, refused_part, replay_done, replay_empty, replay_refused, replay_stopped}
+use Rattle.dg_stop.specs.StopCalls.{behind}
 use Rattle.dg_run.proofs.replays.replay.Goals as goal
-use Rattle.dg_run.proofs.replays.replay.Goals.{In-Ok-Event-Array-default}
+use Rattle.dg_run.proofs.replays.replay.Goals.{In_ok-stop-in-Ok-Event}
 
--- the first line makes the array
-made : (g : _) (c : In-Ok-Event-Array-default g) → Told (Begins None (MakeArray c.in-Ok-Event-Array-default.shape)) (ahead c.in_ok-input.input (g.S.Source.left c.args.source.now)) (ahead c.take_event.new.input (g.S.Source.left c.take_event.new.source))
+-- the first line makes it
+made : (g : _) (c : In_ok-stop-in-Ok-Event g) → Told (Begins None (first_line c.in_ok-stop-in-Ok-Event.field-0.stop c.in_ok-stop-in-Ok-Event.field-0.shape))
+    (ahead c.in_ok-input.input (g.S.Source.left c.args.source.now)) (ahead c.take_event.new.input (g.S.Source.left c.take_event.new.source))
 made g c =
-    let arm = c.in-Ok-Event-Array-default in
+    let arm = c.in-Ok-Event in
     let e = rw arm.field-0-is at arm.ensures in
-    rw arm.field-0-0-is at e.took
+    rw c.in_ok-stop-in-Ok-Event.ensures.start.line e.took
 
-pub returns-in-Ok-Event-Array-default-clause-done : goal.returns-in-Ok-Event-Array-default-clause-done
-returns-in-Ok-Event-Array-default-clause-done g c =
-    let arm = c.in-Ok-Event-Array-default in
-    let line = made g (goal.at.returns-in-Ok-Event-Array-default-clause-done g c).In-Ok-Event-Array-default in
-    IfOk-map c.replay_array.result _ _ (λ end h is. replay_done (unread c.in_ok-input.input) (unread c.replay_array.new.input) c.in_ok-input.ensures
+pub returns-in-Ok-Event-clause-done : goal.returns-in-Ok-Event-clause-done
+returns-in-Ok-Event-clause-done g c =
+    let made_on = c.in_ok-stop-in-Ok-Event.field-0 in
+    let line = made g (goal.at.returns-in-Ok-Event-clause-done g c).In_ok-stop-in-Ok-Event in
+    IfOk-map c.replay_array.result _ _ (λ end h is. rw (sym c.in_ok-stop-in-Ok-Event.ensures.start.rack_is) (replay_done (unread c.in_ok-input.input) (unread c.replay_array.new.input) c.in_ok-input.ensures
     (g.S.Source.left c.args.source.now) (g.S.Source.left c.replay_array.new.source) (g.K.Sink.taken c.args.sink.now) (g.K.Sink.taken c.replay_array.new.sink)
-    (Ran (g.R.Rack.counts c.args.rack) (g.R.Rack.counts end.rack) (g.R.Rack.bytes c.args.rack) (g.R.Rack.bytes end.rack) (g.R.Rack.tells end.rack)) (MakeArray arm.shape) arm.shape (λ events. refl) _ line (h is)) c.replay_array.ensures.done
+    (Ran (g.R.Rack.counts (behind made_on.stop)) (g.R.Rack.counts end.rack) (g.R.Rack.bytes (behind made_on.stop)) (g.R.Rack.bytes end.rack) (g.R.Rack.steady (behind made_on.stop)) (g.R.Rack.tells end.rack)) (first_line made_on.stop made_on.shape) made_on.shape (line_makes made_on.stop made_on.shape) _ line (h is)))
+    c.replay_array.ensures.done
 
-pub returns-in-Ok-Event-Array-default-clause-bad_line : goal.returns-in-Ok-Event-Array-default-clause-bad_line
-returns-in-Ok-Event-Array-default-clause-bad_line g c =
-    let arm = c.in-Ok-Event-Array-default in
-    let line = made g (goal.at.returns-in-Ok-Event-Array-default-clause-bad_line g c).In-Ok-Event-Array-default in
-    IfOk-map c.replay_array.result _ _ (λ end h is. replay_stopped (unread c.in_ok-input.input) (unread c.replay_array.new.input) c.in_ok-input.ensures
+pub returns-in-Ok-Event-clause-bad_line : goal.returns-in-Ok-Event-clause-bad_line
+returns-in-Ok-Event-clause-bad_line g c =
+    let made_on = c.in_ok-stop-in-Ok-Event.field-0 in
+    let line = made g (goal.at.returns-in-Ok-Event-clause-bad_line g c).In_ok-stop-in-Ok-Event in
+    IfOk-map c.replay_array.result _ _ (λ end h is. rw (sym c.in_ok-stop-in-Ok-Event.ensures.start.rack_is) (replay_stopped (unread c.in_ok-input.input) (unread c.replay_array.new.input) c.in_ok-input.ensures
     (g.S.Source.left c.args.source.now) (g.S.Source.left c.replay_array.new.source) (g.K.Sink.taken c.args.sink.now) (g.K.Sink.taken c.replay_array.new.sink)
-    (Ran (g.R.Rack.counts c.args.rack) (g.R.Rack.counts end.rack) (g.R.Rack.bytes c.args.rack) (g.R.Rack.bytes end.rack) (g.R.Rack.tells end.rack)) (MakeArray arm.shape) arm.shape (λ events. refl) _ line (h is)) c.replay_array.ensures.bad_line
+    (Ran (g.R.Rack.counts (behind made_on.stop)) (g.R.Rack.counts end.rack) (g.R.Rack.bytes (behind made_on.stop)) (g.R.Rack.bytes end.rack) (g.R.Rack.steady (behind made_on.stop)) (g.R.Rack.tells end.rack)) (first_line made_on.stop made_on.shape) made_on.shape (line_makes made_on.stop made_on.shape) _ line (h is)))
+    c.replay_array.ensures.bad_line
+
+pub returns-in-Ok-Event-clause-broken : goal.returns-in-Ok-Event-clause-broken
+returns-in-Ok-Event-clause-broken g c =
+    let made_on = c.in_ok-stop-in-Ok-Event.field-0 in
+    let line = made g (goal.at.returns-in-Ok-Event-clause-broken g c).In_ok-stop-in-Ok-Event in
+    IfOk-map c.replay_array.result _ _ (λ end h is. rw (sym c.in_ok-stop-in-Ok-Event.ensures.start.rack_is) (subst (λ (x : Option (List ℕ)). BrokeOff (g.R.Rack.counts (behind made_on.stop)) (g.R.Rack.counts end.rack) (g.R.Rack.bytes (behind made_on.stop)) (g.R.Rack.bytes end.rack) (g.R.Rack.steady (behind made_on.stop)) (g.R.Rack.tells end.rack) x (g.S.Source.left c.replay_array.new.source) (g.K.Sink.taken c.args.sink.now) (g.K.Sink.taken c.replay_array.new.sink))
+    (fresh_is (unread c.in_ok-input.input) (g.S.Source.left c.args.source.now) c.in_ok-input.ensures) (h is (ahead c.in_ok-input.input (g.S.Source.left c.args.source.now)) line))) c.replay_array.ensures.broken
+
+pub returns-in-Ok-Event-clause-part : goal.returns-in-Ok-Event-clause-part
+returns-in-Ok-Event-clause-part g c =
+    let made_on = c.in_ok-stop-in-Ok-Event.field-0 in
+    let line = made g (goal.at.returns-in-Ok-Event-clause-part g c).In_ok-stop-in-Ok-Event in
+    IfOk-map c.replay_array.result _ _ (λ end h is. rw (sym c.in_ok-stop-in-Ok-Event.ensures.start.rack_is) (subst (λ (x : Option (List ℕ)). IsCut (g.R.Rack.counts (behind made_on.stop)) (g.R.Rack.counts end.rack) (g.R.Rack.bytes (behind made_on.stop)) (g.R.Rack.bytes end.rack) (g.R.Rack.steady (behind made_on.stop)) (g.R.Rack.tells end.rack) x (g.S.Source.left c.replay_array.new.source) (g.K.Sink.taken c.args.sink.now) (g.K.Sink.taken c.replay_array.new.sink))
+    (fresh_is (unread c.in_ok-input.input) (g.S.Source.left c.args.source.now) c.in_ok-input.ensures) (h is (ahead c.in_ok-input.input (g.S.Source.left c.args.source.now)) line))) c.replay_array.ensures.part
+
+pub returns-in-Ok-Event-clause-wanting : goal.returns-in-Ok-Event-clause-wanting
+returns-in-Ok-Event-clause-wanting g c =
+    let made_on = c.in_ok-stop-in-Ok-Event.field-0 in
+    let line = made g (goal.at.returns-in-Ok-Event-clause-wanting g c).In_ok-stop-in-Ok-Event in
+    let whole = (rw c.in-Ok-Event.field-0-is at c.in-Ok-Event.ensures).whole in
+    IfOk-map c.replay_array.result _ _ (λ end h is. rw (sym c.in_ok-stop-in-Ok-Event.ensures.start.rack_is) (subst (λ (x : Option (List ℕ)). RanOut (g.R.Rack.counts (behind made_on.stop)) (g.R.Rack.tells end.rack) x (g.S.Source.left c.replay_array.new.source) (g.K.Sink.taken c.args.sink.now) (g.K.Sink.taken c.replay_array.new.sink))
+    (fresh_is (unread c.in_ok-input.input) (g.S.Source.left c.args.source.now) c.in_ok-input.ensures) (h is (ahead c.in_ok-input.input (g.S.Source.left c.args.source.now)) line whole))) c.replay_array.ensures.wanting
+
+pub returns-in-Ok-Event-clause-none : goal.returns-in-Ok-Event-clause-none
+returns-in-Ok-Event-clause-none g c =
+    let e = rw c.in-Ok-Event.field-0-is at c.in-Ok-Event.ensures in
+    wants_array c.replay_array.result (unread c.in_ok-input.input) c.in_ok-input.ensures (g.S.Source.left c.args.source.now) (ahead c.take_event.new.input (g.S.Source.left c.take_event.new.source))
+    (g.S.Source.left c.replay_array.new.source) (g.K.Sink.taken c.args.sink.now) (g.K.Sink.taken c.replay_array.new.sink) e.whole c.replay_array.ensures.none
 
 pub returns-in-Ok-End-clause-bad_line : goal.returns-in-Ok-End-clause-bad_line
 returns-in-Ok-End-clause-bad_line g c is =
     let took = rw c.in-Ok-End.field-0-is at c.in-Ok-End.ensures.took in
     replay_empty (unread c.in_ok-input.input) (unread c.take_event.new.input) c.in_ok-input.ensures
     (g.S.Source.left c.args.source.now) (g.S.Source.left c.take_event.new.source) (g.K.Sink.taken c.args.sink.now) (g.K.Sink.taken c.refuse.new.sink)
-    (g.R.Rack.counts c.args.rack) (g.R.Rack.bytes c.args.rack) (g.R.Rack.tells c.args.rack) took (c.refuse.ensures.bad is)
+    (g.R.Rack.counts c.args.rack) (g.R.Rack.bytes c.args.rack) (g.R.Rack.steady c.args.rack) (g.R.Rack.tells c.args.rack) took (c.refuse.ensures.bad is)
 
 pub returns-in-Ok-Refused-clause-bad_line : goal.returns-in-Ok-Refused-clause-bad_line
 returns-in-Ok-Refused-clause-bad_line g c is =
     let took = rw c.in-Ok-Refused.field-0-is at c.in-Ok-Refused.ensures.took in
     replay_refused (unread c.in_ok-input.input) (unread c.take_event.new.input) c.in_ok-input.ensures
     (g.S.Source.left c.args.source.now) (g.S.Source.left c.take_event.new.source) (g.K.Sink.taken c.args.sink.now) (g.K.Sink.taken c.refuse-in-Ok-Refused.new.sink)
-    (g.R.Rack.counts c.args.rack) (g.R.Rack.bytes c.args.rack) (g.R.Rack.tells c.args.rack) c.in-Ok-Refused.kind took (c.refuse-in-Ok-Refused.ensures.bad is)
-
-pub returns-in-Ok-Event-Array-default-clause-broken : goal.returns-in-Ok-Event-Array-default-clause-broken
-returns-in-Ok-Event-Array-default-clause-broken g c =
-    let arm = c.in-Ok-Event-Array-default in
-    let line = made g (goal.at.returns-in-Ok-Event-Array-default-clause-broken g c).In-Ok-Event-Array-default in
-    IfOk-map c.replay_array.result _ _ (λ end h is. subst (λ (x : Option (List ℕ)). BrokeOff (g.R.Rack.counts c.args.rack) (g.R.Rack.counts end.rack) (g.R.Rack.bytes c.args.rack) (g.R.Rack.bytes end.rack) (g.R.Rack.tells end.rack) x (g.S.Source.left c.replay_array.new.source) (g.K.Sink.taken c.args.sink.now) (g.K.Sink.taken c.replay_array.new.sink))
-    (fresh_is (unread c.in_ok-input.input) (g.S.Source.left c.args.source.now) c.in_ok-input.ensures) (h is (ahead c.in_ok-input.input (g.S.Source.left c.args.source.now)) line)) c.replay_array.ensures.broken
-
-pub returns-in-Ok-Event-Array-default-clause-part : goal.returns-in-Ok-Event-Array-default-clause-part
-returns-in-Ok-Event-Array-default-clause-part g c =
-    let arm = c.in-Ok-Event-Array-default in
-    let line = made g (goal.at.returns-in-Ok-Event-Array-default-clause-part g c).In-Ok-Event-Array-default in
-    IfOk-map c.replay_array.result _ _ (λ end h is. subst (λ (x : Option (List ℕ)). IsCut (g.R.Rack.counts c.args.rack) (g.R.Rack.counts end.rack) (g.R.Rack.bytes c.args.rack) (g.R.Rack.bytes end.rack) (g.R.Rack.tells end.rack) x (g.S.Source.left c.replay_array.new.source) (g.K.Sink.taken c.args.sink.now) (g.K.Sink.taken c.replay_array.new.sink))
-    (fresh_is (unread c.in_ok-input.input) (g.S.Source.left c.args.source.now) c.in_ok-input.ensures) (h is (ahead c.in_ok-input.input (g.S.Source.left c.args.source.now)) line)) c.replay_array.ensures.part
-
-pub returns-in-Ok-Event-Array-default-clause-wanting : goal.returns-in-Ok-Event-Array-default-clause-wanting
-returns-in-Ok-Event-Array-default-clause-wanting g c =
-    let arm = c.in-Ok-Event-Array-default in
-    let line = made g (goal.at.returns-in-Ok-Event-Array-default-clause-wanting g c).In-Ok-Event-Array-default in
-    IfOk-map c.replay_array.result _ _ (λ end h is. subst (λ (x : Option (List ℕ)). RanOut (g.R.Rack.counts c.args.rack) (g.R.Rack.tells end.rack) x (g.S.Source.left c.replay_array.new.source) (g.K.Sink.taken c.args.sink.now) (g.K.Sink.taken c.replay_array.new.sink))
-    (fresh_is (unread c.in_ok-input.input) (g.S.Source.left c.args.source.now) c.in_ok-input.ensures) (h is (ahead c.in_ok-input.input (g.S.Source.left c.args.source.now)) line (rw arm.field-0-is at arm.ensures).whole)) c.replay_array.ensures.wanting
-
-pub returns-in-Ok-Event-Array-default-clause-none : goal.returns-in-Ok-Event-Array-default-clause-none
-returns-in-Ok-Event-Array-default-clause-none g c =
-    let arm = c.in-Ok-Event-Array-default in
-    let e = rw arm.field-0-is at arm.ensures in
-    wants_array c.replay_array.result (unread c.in_ok-input.input) c.in_ok-input.ensures (g.S.Source.left c.args.source.now) (ahead c.take_event.new.input (g.S.Source.left c.take_event.new.source))
-    (g.S.Source.left c.replay_array.new.source) (g.K.Sink.taken c.args.sink.now) (g.K.Sink.taken c.replay_array.new.sink) e.whole c.replay_array.ensures.none
+    (g.R.Rack.counts c.args.rack) (g.R.Rack.bytes c.args.rack) (g.R.Rack.steady c.args.rack) (g.R.Rack.tells c.args.rack) c.in-Ok-Refused.kind took (c.refuse-in-Ok-Refused.ensures.bad is)
 
 pub returns-in-Ok-End-clause-part : goal.returns-in-Ok-End-clause-part
 returns-in-Ok-End-clause-part g c is =
     let took = rw c.in-Ok-End.field-0-is at c.in-Ok-End.ensures.took in
     empty_part (unread c.in_ok-input.input) (unread c.take_event.new.input) c.in_ok-input.ensures
     (g.S.Source.left c.args.source.now) (g.S.Source.left c.take_event.new.source) (g.K.Sink.taken c.args.sink.now) (g.K.Sink.taken c.refuse.new.sink)
-    (g.R.Rack.counts c.args.rack) (g.R.Rack.bytes c.args.rack) (g.R.Rack.tells c.args.rack) took (c.refuse.ensures.part is)
+    (g.R.Rack.counts c.args.rack) (g.R.Rack.bytes c.args.rack) (g.R.Rack.steady c.args.rack) (g.R.Rack.tells c.args.rack) took (c.refuse.ensures.part is)
 
 pub returns-in-Ok-Refused-clause-part : goal.returns-in-Ok-Refused-clause-part
 returns-in-Ok-Refused-clause-part g c is =
     let took = rw c.in-Ok-Refused.field-0-is at c.in-Ok-Refused.ensures.took in
     refused_part (unread c.in_ok-input.input) (unread c.take_event.new.input) c.in_ok-input.ensures
     (g.S.Source.left c.args.source.now) (g.S.Source.left c.take_event.new.source) (g.K.Sink.taken c.args.sink.now) (g.K.Sink.taken c.refuse-in-Ok-Refused.new.sink)
-    (g.R.Rack.counts c.args.rack) (g.R.Rack.bytes c.args.rack) (g.R.Rack.tells c.args.rack) c.in-Ok-Refused.kind took (c.refuse-in-Ok-Refused.ensures.part is)
+    (g.R.Rack.counts c.args.rack) (g.R.Rack.bytes c.args.rack) (g.R.Rack.steady c.args.rack) (g.R.Rack.tells c.args.rack) c.in-Ok-Refused.kind took (c.refuse-in-Ok-Refused.ensures.part is)
 
 pub returns-clause-broken : goal.returns-clause-broken
 returns-clause-broken g c = λ is.
     let fault : c.in-Err.fault ≡ FaultRead = c.status_of.ensures.read.0 is in
     let told = c.take_event.ensures.broken (c.in-Err.is ∙ ap Err fault) in
-    subst (λ (x : Option (List ℕ)). BrokeOff (g.R.Rack.counts c.args.rack) (g.R.Rack.counts c.args.rack) (g.R.Rack.bytes c.args.rack) (g.R.Rack.bytes c.args.rack) (g.R.Rack.tells c.args.rack) x (g.S.Source.left c.take_event.new.source) (g.K.Sink.taken c.args.sink.now) (g.K.Sink.taken c.args.sink.now))
-    (fresh_is (unread c.in_ok-input.input) (g.S.Source.left c.args.source.now) c.in_ok-input.ensures) (broke_off_first _ _ _ _ _ _ _ told refl)
+    subst (λ (x : Option (List ℕ)). BrokeOff (g.R.Rack.counts c.args.rack) (g.R.Rack.counts c.args.rack) (g.R.Rack.bytes c.args.rack) (g.R.Rack.bytes c.args.rack) (g.R.Rack.steady c.args.rack) (g.R.Rack.tells c.args.rack) x (g.S.Source.left c.take_event.new.source) (g.K.Sink.taken c.args.sink.now) (g.K.Sink.taken c.args.sink.now))
+    (fresh_is (unread c.in_ok-input.input) (g.S.Source.left c.args.source.now) c.in_ok-input.ensures) (broke_off_first _ _ _ _ _ _ _ _ told refl)
 
 pub returns-clause-wanting : goal.returns-clause-wanting
 returns-clause-wanting g c = λ is.

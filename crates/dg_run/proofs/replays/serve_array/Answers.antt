@@ -39,6 +39,15 @@ returns-clause-broken g c = λ is.
     let lines = c.serve_lines.ensures.broken (c.in-Err.is ∙ ap Err fault) in
     broke_off_behind g.R.Rack (reply_line Done) _ c.args.first _ _ _ _ _ _ _ c.in-Ok-send.ensures.ok lines
 
+pub returns-in-Ok-Input-clause-lines : goal.returns-in-Ok-Input-clause-lines
+returns-in-Ok-Input-clause-lines g c none =
+    lines_both 255 g.K.Sink.whole g.K.Sink.calls g.K.Sink.taken c.args.sink.now c.send.new.sink c.serve_lines.new.sink c.in-Ok-send.ensures.lines
+    (c.serve_lines.ensures.lines (λ at. let both = sym c.in-Ok-Input.is ∙ at in cc both))
+
+pub returns-in-Ok-Refused-clause-sink_kept : goal.returns-in-Ok-Refused-clause-sink_kept
+returns-in-Ok-Refused-clause-sink_kept g c none =
+    c.refuse.ensures.kept none ∙ c.serve_lines.ensures.sink_kept (λ at. let both = sym c.in-Ok-Refused.is ∙ at in cc both) ∙ c.in-Ok-send.ensures.kept
+
 pub returns-in-Ok-Refused-clause-lines : goal.returns-in-Ok-Refused-clause-lines
 returns-in-Ok-Refused-clause-lines g c none =
     let served = c.serve_lines.ensures.lines (λ at. let both = sym c.in-Ok-Refused.is ∙ at in cc both) in

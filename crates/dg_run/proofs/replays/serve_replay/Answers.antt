@@ -10,8 +10,8 @@ returns-in-Ok-clause-ends g c =
     let e = c.in-Ok.ensures in
     let end = c.in-Ok.end in
     let same : end.rack.now ≡ c.rack-1.given.0 = search rules in
-    subst (λ (r : g.row.R.Denot). EndsReplay (g.R.Rack.tells r) (facts_of g.S.Source g.K.Sink g.R.Rack c.args.source.now c.replay.new.source c.args.sink.now c.replay.new.sink c.args.rack.now r) end.status) same
-    (ends_replay (g.R.Rack.tells end.rack.now) (facts_of g.S.Source g.K.Sink g.R.Rack c.args.source.now c.replay.new.source c.args.sink.now c.replay.new.sink c.args.rack.now end.rack.now) end.status
+    subst (λ (r : g.row.R.Denot). EndsReplay (g.R.Rack.steady c.args.rack.now) (g.R.Rack.tells r) (facts_of g.S.Source g.K.Sink g.R.Rack c.args.source.now c.replay.new.source c.args.sink.now c.replay.new.sink c.args.rack.now r) end.status) same
+    (ends_replay (g.R.Rack.steady c.args.rack.now) (g.R.Rack.tells end.rack.now) (facts_of g.S.Source g.K.Sink g.R.Rack c.args.source.now c.replay.new.source c.args.sink.now c.replay.new.sink c.args.rack.now end.rack.now) end.status
     e.done e.bad_line e.broken e.part e.wanting e.never)
 
 pub returns-in-Err-clause-ends : goal.returns-in-Err-clause-ends

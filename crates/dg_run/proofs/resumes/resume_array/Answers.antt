@@ -2,7 +2,6 @@ use Rattle.std.proofs.Common.{◌≡◌, ◌∙◌, ap, inl, inr, sym}
 use Rattle.std.specs.Prelude.{Err}
 use Rattle.dg_io.specs.SinkLines.{lines_both}
 use Rattle.dg_run.proofs.Laters.{continues_none}
-use Rattle.dg_run.specs.declared.events.Fault.{Fault}
 use Rattle.dg_run.specs.declared.events.Fault.TheVariants.{Read, Write}
 use Rattle.dg_run.proofs.resumes.resume_array.Goals as goal
 

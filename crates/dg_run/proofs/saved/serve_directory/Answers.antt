@@ -1,7 +1,7 @@
 use Rattle.std.proofs.Common.{◌≡◌, ap, rules}
 use Rattle.dg_run.proofs.Ended.{ends_saved}
-use Rattle.dg_saved.specs.Calls.{facts_of}
-use Rattle.dg_saved.specs.Ends.{EndsLs}
+use Rattle.dg_run.specs.Calls.{rack_met}
+use Rattle.dg_run.specs.Ends.{FindsLs}
 use Rattle.dg_saved.specs.declared.ends.SavedEnd.{SavedEnd}
 use Rattle.dg_run.proofs.saved.serve_directory.Goals as goal
 
@@ -13,5 +13,5 @@ returns-in-Ok-clause-ends g c =
     let same : c.in-Ok.ended.rack.now ≡ c.rack-1.given.0 = search rules in
     let ends = rw same at c.in-Ok.ensures.ends in
     rw c.status_by.ensures.is
-    (ends_saved (λ (end : SavedEnd). EndsLs (g.R.Rack.tells c.rack-1.given.0) (facts_of g.K.Sink g.R.Rack c.args.sink.now c.ls_saved.new.sink c.args.rack.now c.rack-1.given.0) c.args.path.now end)
-    (g.K.Sink.taken c.args.sink.now) (g.K.Sink.taken c.ls_saved.new.sink) c.in-Ok.ended.end ends)
+    (ends_saved (λ (end : SavedEnd). FindsLs (g.R.Rack.tells c.rack-1.given.0) (rack_met g.K.Sink g.R.Rack c.args.sink.now c.directory_on.new.sink c.args.rack.now c.rack-1.given.0) c.args.path.now end)
+    (g.K.Sink.taken c.args.sink.now) (g.K.Sink.taken c.directory_on.new.sink) c.in-Ok.ended.end ends)

@@ -23,3 +23,6 @@ pub returns-clause-of_pairs : goal.returns-clause-of_pairs
 returns-clause-of_pairs g c =
     let not = c.in_ok-answer.ensures.not_saved in
     rw c.checkpoint_reply.ensures (kept_pairs g.R.Rack g.R.Checkpoint.room_of c.args.array.now c.in_ok-answer.answer not.0 not.1)
+
+pub returns-clause-saved : goal.returns-clause-saved
+returns-clause-saved g c = record { answer = c.in_ok-answer.answer; is = c.checkpoint_reply.ensures; kept = c.in_ok-answer.ensures.kept }

@@ -7,7 +7,7 @@ use Rattle.dg_run.proofs.serve.serve.Goals.{After-serve_cat, After-serve_lost, A
 -- what is said of each event that reads
 read : (g : _) (c : After-serve_read g) → Serves g.R.Rack c.args.event.now (g.K.Sink.taken c.args.sink.now) (g.K.Sink.taken c.serve_read.new.sink) c.args.array.now c.serve_read.new.array c.serve_read.result
 read g c = serves g.R.Rack g.met.R.Rack.made_none g.met.R.Rack.made_both g.met.R.Rack.after (Read c.in-Read.b) _ _ c.args.array.now c.serve_read.new.array c.serve_read.result c.in-Read.is
-    (goes_read g.R.Rack g.met.R.Rack.made_none g.met.R.Rack.made_both g.met.R.Rack.after (λ bound x y made. made) c.args.array.now c.serve_read.new.array c.requires.ready c.serve_read.ensures.goes) (λ reply. tt) c.serve_read.ensures.answered c.serve_read.ensures.part (λ is. absurd (c.serve_read.ensures.memory is))
+    (goes_read g.R.Rack g.met.R.Rack.made_none g.met.R.Rack.made_both g.met.R.Rack.after (λ bound x y made. made) c.args.array.now c.serve_read.new.array c.requires.ready c.serve_read.ensures.goes) (λ reply. tt) (λ reply. tt) c.serve_read.ensures.answered c.serve_read.ensures.part (λ is. absurd (c.serve_read.ensures.memory is))
 
 pub returns-in-Read-clause-goes : goal.returns-in-Read-clause-goes
 returns-in-Read-clause-goes g c = (read g (goal.at.returns-in-Read-clause-goes g c).After-serve_read).goes
@@ -20,7 +20,7 @@ returns-in-Read-clause-part g c = (read g (goal.at.returns-in-Read-clause-part g
 
 cat : (g : _) (c : After-serve_cat g) → Serves g.R.Rack c.args.event.now (g.K.Sink.taken c.args.sink.now) (g.K.Sink.taken c.serve_cat.new.sink) c.args.array.now c.serve_cat.new.array c.serve_cat.result
 cat g c = serves g.R.Rack g.met.R.Rack.made_none g.met.R.Rack.made_both g.met.R.Rack.after (Cat c.in-Cat.path) _ _ c.args.array.now c.serve_cat.new.array c.serve_cat.result c.in-Cat.is
-    (goes_read g.R.Rack g.met.R.Rack.made_none g.met.R.Rack.made_both g.met.R.Rack.after (λ bound x y made. made) c.args.array.now c.serve_cat.new.array c.requires.ready c.serve_cat.ensures.goes) (λ reply. tt) c.serve_cat.ensures.answered c.serve_cat.ensures.part c.serve_cat.ensures.wanting
+    (goes_read g.R.Rack g.met.R.Rack.made_none g.met.R.Rack.made_both g.met.R.Rack.after (λ bound x y made. made) c.args.array.now c.serve_cat.new.array c.requires.ready c.serve_cat.ensures.goes) (λ reply. tt) (λ reply. tt) c.serve_cat.ensures.answered c.serve_cat.ensures.part c.serve_cat.ensures.wanting
 
 pub returns-in-Cat-clause-goes : goal.returns-in-Cat-clause-goes
 returns-in-Cat-clause-goes g c = (cat g c).goes
@@ -36,7 +36,7 @@ returns-in-Cat-clause-wanting g c = (cat g c).wanting
 
 ls : (g : _) (c : After-serve_ls g) → Serves g.R.Rack c.args.event.now (g.K.Sink.taken c.args.sink.now) (g.K.Sink.taken c.serve_ls.new.sink) c.args.array.now c.serve_ls.new.array c.serve_ls.result
 ls g c = serves g.R.Rack g.met.R.Rack.made_none g.met.R.Rack.made_both g.met.R.Rack.after (Ls c.in-Ls.path) _ _ c.args.array.now c.serve_ls.new.array c.serve_ls.result c.in-Ls.is
-    (goes_read g.R.Rack g.met.R.Rack.made_none g.met.R.Rack.made_both g.met.R.Rack.after (λ bound x y made. made) c.args.array.now c.serve_ls.new.array c.requires.ready c.serve_ls.ensures.goes) (λ reply. tt) c.serve_ls.ensures.answered c.serve_ls.ensures.part (λ is. absurd (c.serve_ls.ensures.memory is))
+    (goes_read g.R.Rack g.met.R.Rack.made_none g.met.R.Rack.made_both g.met.R.Rack.after (λ bound x y made. made) c.args.array.now c.serve_ls.new.array c.requires.ready c.serve_ls.ensures.goes) (λ reply. tt) (λ reply. tt) c.serve_ls.ensures.answered c.serve_ls.ensures.part (λ is. absurd (c.serve_ls.ensures.memory is))
 
 pub returns-in-Ls-clause-goes : goal.returns-in-Ls-clause-goes
 returns-in-Ls-clause-goes g c = (ls g c).goes
@@ -49,7 +49,7 @@ returns-in-Ls-clause-part g c = (ls g c).part
 
 tree : (g : _) (c : After-serve_tree g) → Serves g.R.Rack c.args.event.now (g.K.Sink.taken c.args.sink.now) (g.K.Sink.taken c.serve_tree.new.sink) c.args.array.now c.serve_tree.new.array c.serve_tree.result
 tree g c = serves g.R.Rack g.met.R.Rack.made_none g.met.R.Rack.made_both g.met.R.Rack.after Tree _ _ c.args.array.now c.serve_tree.new.array c.serve_tree.result c.in-Tree.is
-    (goes_read g.R.Rack g.met.R.Rack.made_none g.met.R.Rack.made_both g.met.R.Rack.after (λ bound x y made. made) c.args.array.now c.serve_tree.new.array c.requires.ready c.serve_tree.ensures.goes) (λ reply. tt) c.serve_tree.ensures.answered c.serve_tree.ensures.part c.serve_tree.ensures.wanting
+    (goes_read g.R.Rack g.met.R.Rack.made_none g.met.R.Rack.made_both g.met.R.Rack.after (λ bound x y made. made) c.args.array.now c.serve_tree.new.array c.requires.ready c.serve_tree.ensures.goes) (λ reply. tt) (λ reply. tt) c.serve_tree.ensures.answered c.serve_tree.ensures.part c.serve_tree.ensures.wanting
 
 pub returns-in-Tree-clause-goes : goal.returns-in-Tree-clause-goes
 returns-in-Tree-clause-goes g c = (tree g c).goes
@@ -65,7 +65,7 @@ returns-in-Tree-clause-wanting g c = (tree g c).wanting
 
 lost : (g : _) (c : After-serve_lost g) → Serves g.R.Rack c.args.event.now (g.K.Sink.taken c.args.sink.now) (g.K.Sink.taken c.serve_lost.new.sink) c.args.array.now c.serve_lost.new.array c.serve_lost.result
 lost g c = serves g.R.Rack g.met.R.Rack.made_none g.met.R.Rack.made_both g.met.R.Rack.after LostFiles _ _ c.args.array.now c.serve_lost.new.array c.serve_lost.result c.in-LostFiles.is
-    (goes_read g.R.Rack g.met.R.Rack.made_none g.met.R.Rack.made_both g.met.R.Rack.after (λ bound x y made. made) c.args.array.now c.serve_lost.new.array c.requires.ready c.serve_lost.ensures.goes) (λ reply. tt) c.serve_lost.ensures.answered c.serve_lost.ensures.part c.serve_lost.ensures.wanting
+    (goes_read g.R.Rack g.met.R.Rack.made_none g.met.R.Rack.made_both g.met.R.Rack.after (λ bound x y made. made) c.args.array.now c.serve_lost.new.array c.requires.ready c.serve_lost.ensures.goes) (λ reply. tt) (λ reply. tt) c.serve_lost.ensures.answered c.serve_lost.ensures.part c.serve_lost.ensures.wanting
 
 pub returns-in-LostFiles-clause-goes : goal.returns-in-LostFiles-clause-goes
 returns-in-LostFiles-clause-goes g c = (lost g c).goes
@@ -81,7 +81,7 @@ returns-in-LostFiles-clause-wanting g c = (lost g c).wanting
 
 pending : (g : _) (c : After-serve_pending g) → Serves g.R.Rack c.args.event.now (g.K.Sink.taken c.args.sink.now) (g.K.Sink.taken c.serve_pending.new.sink) c.args.array.now c.args.array.now c.serve_pending.result
 pending g c = serves g.R.Rack g.met.R.Rack.made_none g.met.R.Rack.made_both g.met.R.Rack.after Pending _ _ c.args.array.now c.args.array.now c.serve_pending.result c.in-Pending.is
-    (goes_none g.R.Rack g.met.R.Rack.made_none g.met.R.Rack.made_both g.met.R.Rack.after (λ bound x y made. made) c.args.array.now c.requires.ready) (λ reply. tt) c.serve_pending.ensures.answered c.serve_pending.ensures.part (λ is. absurd (c.serve_pending.ensures.memory is))
+    (goes_none g.R.Rack g.met.R.Rack.made_none g.met.R.Rack.made_both g.met.R.Rack.after (λ bound x y made. made) c.args.array.now c.requires.ready) (λ reply. tt) (λ reply. tt) c.serve_pending.ensures.answered c.serve_pending.ensures.part (λ is. absurd (c.serve_pending.ensures.memory is))
 
 pub returns-in-Pending-clause-goes : goal.returns-in-Pending-clause-goes
 returns-in-Pending-clause-goes g c = (pending g c).goes

@@ -11,7 +11,8 @@ replaced g c =
     let r = c.replace-reply in
     let by = goes_replaced g.R.Rack g.met.R.Rack.made_none g.met.R.Rack.made_both g.met.R.Rack.after c.args.s c.args.j c.args.array.now r.new.array c.requires.ready r.ensures.goes in
     serves_reply g.R.Rack g.met.R.Rack.made_none g.met.R.Rack.made_both g.met.R.Rack.after (Replace c.args.s c.args.j) r.result _ _ c.args.array.now r.new.array c.send.result by.on
-    (runs_of g.R.Rack g.met.R.Rack.made_none g.met.R.Rack.made_both g.met.R.Rack.after c.args.array.now r.new.array (Replace c.args.s c.args.j) r.result by tt r.ensures.steps) c.send.ensures.ok c.send.ensures.part c.send.ensures.err
+    (runs_of g.R.Rack g.met.R.Rack.made_none g.met.R.Rack.made_both g.met.R.Rack.after c.args.array.now r.new.array (Replace c.args.s c.args.j) r.result by tt
+    (c.requires.ready, r.ensures.goes, r.ensures.replaced) r.ensures.steps) c.send.ensures.ok c.send.ensures.part c.send.ensures.err
 
 pub returns-clause-goes : goal.returns-clause-goes
 returns-clause-goes g c = (replaced g c).goes

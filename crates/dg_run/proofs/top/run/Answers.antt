@@ -13,7 +13,7 @@ pub returns-in-Ok-clause-ends : goal.returns-in-Ok-clause-ends
 returns-in-Ok-clause-ends g c command words =
     let s = c.serve_command in
     let same = asked_is _ c.command.result c.command.ensures.exact c.in-Ok.asked command c.in-Ok.is words in
-    subst (λ (d : Command). Ends (g.R.Rack.tells s.new.rack) (facts_of g.S.Source g.K.Sink g.R.Rack c.args.source.now s.new.source c.args.sink.now s.new.sink c.args.rack.now s.new.rack) d s.result) (sym same) s.ensures.ends
+    subst (λ (d : Command). Ends (g.R.Rack.steady c.args.rack.now) (g.R.Rack.tells s.new.rack) (facts_of g.S.Source g.K.Sink g.R.Rack c.args.source.now s.new.source c.args.sink.now s.new.sink c.args.rack.now s.new.rack) d s.result) (sym same) s.ensures.ends
 
 pub returns-in-Ok-clause-usage : goal.returns-in-Ok-clause-usage
 returns-in-Ok-clause-usage g c = λ is command words. c.serve_command.ensures.usage is
@@ -40,7 +40,7 @@ returns-in-Ok-clause-complete g c command words source sink =
     let met = facts_of g.S.Source g.K.Sink g.R.Rack c.args.source.now s.new.source c.args.sink.now s.new.sink c.args.rack.now s.new.rack in
     let same = asked_is _ c.command.result c.command.ensures.exact c.in-Ok.asked command c.in-Ok.is words in
     let tells = g.R.Rack.tells s.new.rack in
-    completes c.image_has_one_answer.ensures tells met command s.result (subst (λ (d : Command). Ends tells met d s.result) (sym same) s.ensures.ends)
+    completes c.image_has_one_answer.ensures (g.R.Rack.steady c.args.rack.now) tells met command s.result (subst (λ (d : Command). Ends (g.R.Rack.steady c.args.rack.now) tells met d s.result) (sym same) s.ensures.ends)
     ((λ is. source (s.ensures.read is)), (λ is. sink (s.ensures.write is)))
 
 pub returns-in-Err-Usage-clause-ends : goal.returns-in-Err-Usage-clause-ends
@@ -64,7 +64,7 @@ pub returns-in-Err-Usage-clause-complete : goal.returns-in-Err-Usage-clause-comp
 returns-in-Err-Usage-clause-complete g c command words source sink = absurd (words_refused _ c.command.result c.command.ensures.exact command (c.in-Err-Usage.is ∙ ap Err c.in-Err-Usage.field-0-is) words)
 
 pub returns-in-Err-NoMemory-clause-ends : goal.returns-in-Err-NoMemory-clause-ends
-returns-in-Err-NoMemory-clause-ends g c command words = wanted_first _ (facts_of g.S.Source g.K.Sink g.R.Rack c.args.source.now c.args.source.now c.args.sink.now c.args.sink.now c.args.rack.now c.args.rack.now) command refl refl
+returns-in-Err-NoMemory-clause-ends g c command words = wanted_first _ _ (facts_of g.S.Source g.K.Sink g.R.Rack c.args.source.now c.args.source.now c.args.sink.now c.args.sink.now c.args.rack.now c.args.rack.now) command refl refl
 
 pub returns-in-Err-NoMemory-clause-plain : goal.returns-in-Err-NoMemory-clause-plain
 returns-in-Err-NoMemory-clause-plain g c = λ is none. c.command.ensures.memory (c.in-Err-NoMemory.is ∙ ap Err c.in-Err-NoMemory.field-0-is)
@@ -73,7 +73,7 @@ pub returns-in-Err-NoMemory-clause-complete : goal.returns-in-Err-NoMemory-claus
 returns-in-Err-NoMemory-clause-complete g c command words source sink =
     let met = facts_of g.S.Source g.K.Sink g.R.Rack c.args.source.now c.args.source.now c.args.sink.now c.args.sink.now c.args.rack.now c.args.rack.now in
     let tells = g.R.Rack.tells c.args.rack.now in
-    completes c.image_has_one_answer.ensures tells met command NoMemory (wanted_first tells met command refl refl) ((λ is. absurd (cc is)), (λ is. absurd (cc is)))
+    completes c.image_has_one_answer.ensures (g.R.Rack.steady c.args.rack.now) tells met command NoMemory (wanted_first (g.R.Rack.steady c.args.rack.now) tells met command refl refl) ((λ is. absurd (cc is)), (λ is. absurd (cc is)))
 
 pub returns-in-Ok-clause-lines : goal.returns-in-Ok-clause-lines
 returns-in-Ok-clause-lines g c command words none =

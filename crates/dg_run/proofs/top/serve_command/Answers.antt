@@ -1,3 +1,4 @@
+use Rattle.dg_run.proofs.Ended.{no_usage}
 use Rattle.dg_run.proofs.top.serve_command.Goals as goal
 
 pub returns-in-Replay-clause-ends : goal.returns-in-Replay-clause-ends
@@ -25,7 +26,7 @@ pub returns-in-Replay-clause-usage : goal.returns-in-Replay-clause-usage
 returns-in-Replay-clause-usage g c is = absurd (rw is at c.serve_replay.ensures.ends)
 
 pub returns-in-Resume-clause-usage : goal.returns-in-Resume-clause-usage
-returns-in-Resume-clause-usage g c is = absurd (rw is at c.serve_resume.ensures.ends)
+returns-in-Resume-clause-usage g c is = no_usage _ _ _ (rw is at c.serve_resume.ensures.ends)
 
 pub returns-in-Replay-clause-lines : goal.returns-in-Replay-clause-lines
 returns-in-Replay-clause-lines g c none = rw c.in-Replay.is (c.serve_replay.ensures.lines none)

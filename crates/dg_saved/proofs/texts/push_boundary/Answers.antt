@@ -1,6 +1,7 @@
-use Rattle.std.proofs.Common.{◌≡◌, ◌∙◌, ◌<◌, ◌+◌, ◌*◌, ◌++◌, ℕ, ap, arith, length}
+use Rattle.std.proofs.Common.{◌≡◌, ◌∙◌, ◌<◌, ◌+◌, ◌*◌, ◌++◌, ℕ, List, ap, arith, length}
 use Rattle.std.specs.Prelude.{codes}
 use Rattle.std.specs.Fmt.{decimal}
+use Rattle.dg_model.specs.Lives.{boundary_at}
 use Rattle.dg_model.specs.Tables.{used_in}
 use Rattle.dg_model.specs.declared.members.MemberState.{MemberState}
 use Rattle.dg_pair.specs.Boundaries.{members_of as boundary_members}
@@ -38,4 +39,5 @@ returns g c =
     ∙ ap (λ (m : MemberState). c.push.new.text.items ++ pair_words m c.member-2.result) first
     ∙ ap (λ (m : MemberState). c.push.new.text.items ++ pair_words (members_of v (2 * s)) m) second in
     let used = c.in_ok-push_words-2.ensures ∙ ap (λ (n : ℕ). c.push_pair.new.text.items ++ (codes " " ++ decimal n)) (c.used.ensures ∙ ap (used_in (table_of v)) place) in
-    line_whole c.push-2.result _ _ _ _ _ _ (codes "boundary " ++ decimal s) _ _ c.in_ok-push_words.ensures c.in_ok-push.ensures pair used c.push-2.ensures
+    let words = c.in_ok-push_words.ensures ∙ ap (λ (live : List ℕ). c.args.text.now.items ++ (codes "boundary " ++ decimal (boundary_at live s))) c.live.ensures in
+    line_whole c.push-2.result _ _ _ _ _ _ (codes "boundary " ++ decimal (boundary_at (live_of v) s)) _ _ words c.in_ok-push.ensures pair used c.push-2.ensures

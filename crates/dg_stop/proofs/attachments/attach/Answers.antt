@@ -8,14 +8,14 @@ attach_all-requires-clause-can g c =
     let reading = c.args.reading in
     let t = c.in-Some.attached in
     let are : AreTables g.R.Rack reading.found c.args.rack.now t = subst (HasTables g.R.Rack reading.found c.args.rack.now) c.in-Some.is c.requires.1.tables in
-    can_finish g.R.Rack reading.found reading.known t c.requires.0 c.args.rack.now c.requires.1.found are are.many
+    can_finish g.R.Rack reading.found reading.known reading.failed t c.requires.0 c.args.rack.now c.requires.1.found are are.many
 
 pub attach_all-requires-clause-sized : goal.attach_all-requires-clause-sized
 attach_all-requires-clause-sized g c =
     let reading = c.args.reading in
     let t = c.in-Some.attached in
     let are : AreTables g.R.Rack reading.found c.args.rack.now t = subst (HasTables g.R.Rack reading.found c.args.rack.now) c.in-Some.is c.requires.1.tables in
-    sized_prepared g.R.Rack reading.found reading.known t c.requires.0 c.args.rack.now c.requires.1.found are are.many
+    sized_prepared g.R.Rack reading.found reading.known reading.failed t c.requires.0 c.args.rack.now c.requires.1.found are are.many
 
 pub attach_all-requires-clause-count : goal.attach_all-requires-clause-count
 attach_all-requires-clause-count g c =
@@ -28,4 +28,4 @@ attach_all-requires-clause-whole g c =
     let reading = c.args.reading in
     let t = c.in-Some.attached in
     let are : AreTables g.R.Rack reading.found c.args.rack.now t = subst (HasTables g.R.Rack reading.found c.args.rack.now) c.in-Some.is c.requires.1.tables in
-    whole_at g.R.Rack reading.found reading.known t c.requires.0 c.args.rack.now c.requires.1.found are are.many
+    whole_at g.R.Rack reading.found reading.known reading.failed t c.requires.0 c.args.rack.now c.requires.1.found are are.many

@@ -20,7 +20,7 @@ returns-in-Err-clause-steps g c =
     let m = c.args.memory.now in
     let loses : Loses q m c.lose.new.self = subst (λ (x : Memory). Loses q x c.lose.new.self) c.in-Err.ensures.err c.lose.ensures in
     still_steps g.R.Rack (blanks q) q _ m c.lose.new.self c.args.rack.now c.requires.held loses.beside loses.placed.now loses.placed.last (loses_stands q m c.lose.new.self loses) tt
-    (λ out gone. gone_bare q c.lose.new.self (omega (arith, c.requires.held.few, loses.beside.count)) loses.fell gone)
+    (λ out gone. gone_bare q c.lose.new.self (omega (arith, c.requires.held.few, loses.beside.count)) loses.fell gone) tt (λ are at. absurd (false≢true (sym loses.stands ∙ at))) tt
 
 pub returns-in-Err-clause-keeps : goal.returns-in-Err-clause-keeps
 returns-in-Err-clause-keeps g c =
@@ -44,7 +44,7 @@ returns-in-Ok-blank-clause-steps g c =
     (beside_then q m mid n c.in-Ok.ensures.lays.beside c.join.ensures.beside)
     (λ at. blank_sized g.R.Rack q c.args.size c.double_len.result m mid n c.args.rack.now c.blank.new.self c.in-Ok.ensures.lays c.join.ensures c.in-Ok-blank.ensures.stands c.double_len.ensures c.in-Ok-blank.ensures.ok)
     (λ out gone. absurd (false≢true (sym out ∙ c.join.ensures.stands)))
-    (λ at. laid_pair q c.args.size m mid n c.in-Ok.ensures.lays c.join.ensures) c.join.ensures.stands
+    (λ at. laid_pair q c.args.size m mid n c.in-Ok.ensures.lays c.join.ensures) c.join.ensures.stands (λ at. c.join.ensures.known)
 
 pub returns-in-Ok-blank-clause-keeps : goal.returns-in-Ok-blank-clause-keeps
 returns-in-Ok-blank-clause-keeps g c =
@@ -75,7 +75,7 @@ returns-in-Err-blank-clause-steps g c =
     blanks_steps g.R.Rack q _ m n c.args.rack.now c.blank.new.self c.requires.held c.in-Err-blank.ensures.leaves (g.met.R.Rack.after c.args.rack.now c.blank.new.self (blanks q ∷ []) c.blank.ensures.made)
     beside (λ at. absurd (false≢true (sym c.lose-in-Err-blank.ensures.stands ∙ at)))
     (λ out gone. gone_bare q n (omega (arith, c.requires.held.few, beside.count)) c.lose-in-Err-blank.ensures.fell gone)
-    (λ at. absurd (false≢true (sym c.lose-in-Err-blank.ensures.stands ∙ at))) tt
+    (λ at. absurd (false≢true (sym c.lose-in-Err-blank.ensures.stands ∙ at))) tt (λ at. absurd (false≢true (sym c.lose-in-Err-blank.ensures.stands ∙ at)))
 
 pub returns-in-Err-blank-clause-keeps : goal.returns-in-Err-blank-clause-keeps
 returns-in-Err-blank-clause-keeps g c =

@@ -13,9 +13,9 @@ read-requires-clause-range g c =
 pub returns-in-Ok-clause-looks : goal.returns-in-Ok-clause-looks
 returns-in-Ok-clause-looks g c =
     looks_as g.R.Rack c.args.header.now.member c.read.result _ (λ h. sym (ap is_err c.in-Ok.is) ∙ h) (λ h. absurd (false≢true h)) c.args.rack.now c.read.new.self
-    (was_read g.R.Rack c.args.header.now.member c.read.result c.args.rack.now c.read.new.self c.read.ensures.leaves c.read.ensures.made c.read.ensures.same)
+    (was_read g.R.Rack c.args.header.now.member c.read.result c.args.rack.now c.read.new.self c.read.ensures.leaves c.read.ensures.made c.read.ensures.same c.read.ensures.writes)
 
 pub returns-in-Err-clause-looks : goal.returns-in-Err-clause-looks
 returns-in-Err-clause-looks g c =
     looks_as g.R.Rack c.args.header.now.member c.read.result _ (λ h. refl) (λ h. ap is_err c.in-Err.is) c.args.rack.now c.read.new.self
-    (was_read g.R.Rack c.args.header.now.member c.read.result c.args.rack.now c.read.new.self c.read.ensures.leaves c.read.ensures.made c.read.ensures.same)
+    (was_read g.R.Rack c.args.header.now.member c.read.result c.args.rack.now c.read.new.self c.read.ensures.leaves c.read.ensures.made c.read.ensures.same c.read.ensures.writes)

@@ -43,6 +43,7 @@ loop-number-preserved g c =
       zeros = subst (λ (row : List Boundary). AreZeroed size (members_in row) now) (sym pushed) zeros;
       stays = rack_both g.R.Rack _ _ _ inv.stays (stays_of g.R.Rack g.met.R.Rack.after leaves);
       made = subst (λ (n : ℕ). g.R.Rack.made c.args.rack.now (blanks_of n) c.new-boundary.new.rack) next (g.met.R.Rack.made_both _ _ _ _ _ inv.made made.made);
+      nothing = λ kept none keeps. let next = inv.nothing kept none keeps in made.keeps next.0 next.1 next.2;
       own = own_both g.R.Rack (c.loop-number.number + 1) _ _ _ (own_wider g.R.Rack _ _ _ _ (omega arith) inv.own) (own_blanked g.R.Rack refl (omega arith) leaves);
       fell = subst (λ (row : List Boundary). FailedAreOut f h (members_in row)) (sym pushed) (pushed_fell c.loop-number.number _ _ _ _ changed f _ h inv.fell leaves.fell inv.own.other_faults (λ q off. leaves.other_faults q off));
       most = omega (arith, inv.most, made.most);
@@ -79,6 +80,7 @@ loop-number-init g c = record {
   zeros = search rules;
   stays = search rules;
   made = g.met.R.Rack.made_none _;
+  nothing = λ kept none keeps. (kept, none, keeps);
   own = below_none g.R.Rack 0 _;
   fell = λ q rose. absurd (omega (arith, rose));
   most = search rules;

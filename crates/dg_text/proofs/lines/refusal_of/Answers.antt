@@ -4,8 +4,7 @@ use Rattle.std.specs.Option.{option_copied}
 use Rattle.dg_model.specs.declared.shapes.Shape.{Shape}
 use Rattle.dg_text.specs.Refusals.{Begins, IsNumberWord, IsOutOfOrder, count_of, numbers_of, word_of, words, words_behind}
 use Rattle.dg_text.specs.declared.kinds.EventKind.{EventKind}
-use Rattle.dg_text.specs.declared.kinds.EventKind.TheVariants.{Array}
-use Rattle.dg_text.proofs.Decisions.{is_kind, wrong_form}
+use Rattle.dg_text.proofs.Decisions.{wrong_form}
 use Rattle.dg_text.proofs.Reasons.{IsFormed, by_order, by_form, by_number, left_limits, left_hex, left_path}
 use Rattle.dg_text.proofs.lines.refusal_of.Goals as goal
 use Rattle.dg_text.proofs.lines.refusal_of.Goals.{After-tail}
@@ -68,7 +67,7 @@ numbers c =
 pub returns-in-Nothing : goal.returns-in-Nothing
 returns-in-Nothing c =
     let l = (goal.at.returns-in-Nothing c).After-tail in
-    left_limits (option_copied c.args.shape) c.args.line.now (start l) (form l) (numbers l) c.requires (sym c.tail.ensures ∙ c.in-Nothing.is) (is_kind c.in-Some.kind Array)
+    left_limits (option_copied c.args.shape) c.args.line.now (start l) (form l) (numbers l) c.requires (sym c.tail.ensures ∙ c.in-Nothing.is)
 
 pub returns-in-Bytes : goal.returns-in-Bytes
 returns-in-Bytes c =

@@ -1,4 +1,5 @@
-use Rattle.std.proofs.Common.{refl}
+use Rattle.std.proofs.Common.{[], refl}
+use Rattle.std.specs.Prelude.{None}
 use Rattle.dg_io.specs.Racks.{counts_in, member_in, told_in}
 use Rattle.dg_io.specs.Sinks.{sure_taken}
 use Rattle.dg_io.specs.declared.racks.MemRack.{MemRack}
@@ -15,6 +16,8 @@ met sink sink_now rack rack_now = record {
   now = counts_in rack_now;
   images = member_in rack;
   bytes = member_in rack_now;
+  extra = [];
+  room = None;
   taken = sure_taken sink;
   given = sure_taken sink_now;
 }
@@ -29,5 +32,5 @@ returns-clause-answer c =
 pub returns-clause-printed : goal.returns-clause-printed
 returns-clause-printed c none text is =
     let s = c.run-status in
-    no_state_printed (told_in s.new.rack) (met c.in_ok-sink.sink s.new.sink c.in_ok-rack.rack s.new.rack) s.result text c.in_ok-sink.ensures.taken none
-    (s.ensures.ends StatusCommand c.in_ok-words.ensures) is
+    no_state_printed (told_in s.new.rack) (met c.in_ok-sink.sink s.new.sink c.in_ok-rack.rack s.new.rack) s.result text
+    (record { empty = c.in_ok-rack.ensures.empty; told = λ q. refl }) c.in_ok-sink.ensures.taken none (s.ensures.ends StatusCommand c.in_ok-words.ensures) is

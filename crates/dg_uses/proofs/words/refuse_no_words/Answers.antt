@@ -8,6 +8,7 @@ use Rattle.dg_io.specs.declared.sinks.SureSink.{SureSink}
 use Rattle.dg_io.specs.declared.sources.SureSource.{SureSource}
 use Rattle.dg_run.specs.Calls.{Facts}
 use Rattle.dg_uses.proofs.BlankRows.{none_rose}
+use Rattle.dg_uses.proofs.FewCalls.{one_call}
 use Rattle.dg_uses.proofs.WordRows.{is_usage, none_asked, none_taken, usage_printed}
 use Rattle.dg_uses.proofs.words.refuse_no_words.Goals as goal
 
@@ -39,6 +40,13 @@ returns-clause-printed c text is =
     let none = none_asked (map string_bytes c.new-words.result.items) (ap (map string_bytes) c.new-words.ensures.items) in
     usage_printed (met c.new-source.result s.new.source c.in_ok-sink.sink s.new.sink c.in_ok-rack.rack s.new.rack) s.result text (s.ensures.other none).0
     (returns-clause-answer c) c.in_ok-sink.ensures.taken is
+
+pub returns-clause-once : goal.returns-clause-once
+returns-clause-once c text is =
+    let s = c.run-status in
+    let none = none_asked (map string_bytes c.new-words.result.items) (ap (map string_bytes) c.new-words.ensures.items) in
+    one_call c.in_ok-sink.sink s.new.sink text c.in_ok-sink.ensures.taken c.in_ok-sink.ensures.calls
+    (s.ensures.usage_lines none (λ write. none_rose (s.ensures.write write))) is (returns-clause-printed c text is)
 
 pub returns-clause-calls : goal.returns-clause-calls
 returns-clause-calls c =

@@ -16,7 +16,7 @@ returns-clause-leaves g c = rw (← c.replace.ensures.value) (
     c.replace_any-next.ensures.not_out c.replace_any-next.ensures.members (λ e. same_as _ _ (ap (λ r. g.R.Rack.bytes r p) (c.replace_any-next.ensures.quiet (inr e)))) c.replace_any-next.ensures.other_bytes
     (rw c.replace.ensures.value c.requires.size) c.replace_any-next.ensures.blank (rw c.replace.ensures.value c.requires.room))
     (replace_at g.R.Rack (number_of c.replace.result) c.args.side _ _ c.requires.side
-    (replace_made g.R.Rack g.met.R.Rack.made_none c.replace_any-next.result.1 p _ _ c.replace_any-next.ensures.made c.replace_any-next.ensures.quiet)))
+    (replace_made g.R.Rack g.met.R.Rack.made_none c.replace_any-next.result.1 p _ _ c.replace_any-next.ensures.keeps)))
 
 pub returns-clause-kept : goal.returns-clause-kept
 returns-clause-kept g c = rw (← c.replace.ensures.value) (
@@ -27,4 +27,7 @@ returns-clause-kept g c = rw (← c.replace.ensures.value) (
 
 pub returns-clause-made : goal.returns-clause-made
 returns-clause-made g c = rw (← c.replace.ensures.value) (
-    replace_made g.R.Rack g.met.R.Rack.made_none c.replace_any-next.result.1 (2 * number_of c.replace.result + c.args.side) _ _ c.replace_any-next.ensures.made c.replace_any-next.ensures.quiet)
+    replace_made g.R.Rack g.met.R.Rack.made_none c.replace_any-next.result.1 (2 * number_of c.replace.result + c.args.side) _ _ c.replace_any-next.ensures.keeps)
+
+pub returns-clause-keeps : goal.returns-clause-keeps
+returns-clause-keeps g c = rw (← c.replace.ensures.value) c.replace_any-next.ensures.keeps

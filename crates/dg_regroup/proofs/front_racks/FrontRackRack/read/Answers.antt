@@ -3,7 +3,7 @@ use Rattle.dg_io.specs.RackCalls.RackCall.{calls}
 use Rattle.dg_io.specs.Told.{Reads}
 use Rattle.dg_regroup.specs.FrontRacks.{front_of, is_front}
 use Rattle.dg_regroup.proofs.FrontBytes.{Covers, ok_more, reads_shown, told_shown}
-use Rattle.dg_regroup.proofs.FrontCalls.{passed_as}
+use Rattle.dg_regroup.proofs.FrontCalls.{passed_as, spared}
 use Rattle.dg_regroup.proofs.front_racks.FrontRackRack.read.Goals as goal
 
 pub returns-clause-ok : goal.returns-clause-ok
@@ -18,4 +18,5 @@ returns-clause-ok g c =
 
 pub returns-clause-made : goal.returns-clause-made
 returns-clause-made g c =
-    passed_as g.R.Rack (calls c.args.member) (calls c.args.member) refl c.args.self.now _ refl refl (λ q. omega arith) (λ q far. refl) (omega arith) (λ is. refl) (λ is. refl) c.read.ensures.made
+    passed_as g.R.Rack (calls c.args.member) (calls c.args.member) refl c.args.self.now _ refl refl (λ q. omega arith) (λ q far. refl) (omega arith) (λ is. refl) (λ is. refl) (λ is. refl) (λ is. refl)
+    (λ is q front. spared c.args.member _ _ c.read.ensures.leaves.others c.read.ensures.same q) c.read.ensures.made

@@ -3,7 +3,7 @@ use Rattle.dg_io.specs.RackCalls.RackCall.{calls}
 use Rattle.dg_io.specs.Told.{OldOrNew, Patched, Torn}
 use Rattle.dg_regroup.specs.FrontRacks.{is_front}
 use Rattle.dg_regroup.proofs.FrontBytes.{Covers, err_more, ok_more, old_or_new_shown, patched_shown, told_shown, torn_shown}
-use Rattle.dg_regroup.proofs.FrontCalls.{passed_as}
+use Rattle.dg_regroup.proofs.FrontCalls.{passed_as, unseen_by}
 use Rattle.dg_regroup.proofs.front_racks.FrontRackRack.write.Goals as goal
 
 pub returns-clause-ok : goal.returns-clause-ok
@@ -35,4 +35,5 @@ returns-clause-whole g c =
 
 pub returns-clause-made : goal.returns-clause-made
 returns-clause-made g c =
-    passed_as g.R.Rack (calls c.args.member) (calls c.args.member) refl c.args.self.now _ refl refl (λ q. omega arith) (λ q far. refl) (omega arith) (λ is. refl) (λ is. refl) c.write.ensures.made
+    passed_as g.R.Rack (calls c.args.member) (calls c.args.member) refl c.args.self.now _ refl refl (λ q. omega arith) (λ q far. refl) (omega arith) (λ is. refl) (λ is. refl) (λ is. refl) (λ is. refl)
+    (unseen_by g.R.Rack c.args.member c.args.self.now _ c.requires.stands c.write.ensures.leaves.others) c.write.ensures.made

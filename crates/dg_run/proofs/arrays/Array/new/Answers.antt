@@ -1,7 +1,8 @@
-use Rattle.std.proofs.Common.{◌∙◌, ap, length, sym}
+use Rattle.std.proofs.Common.{◌∙◌, ap, length, subst, sym}
 use Rattle.std.proofs.lemmas.List.{length-replicate}
 use Rattle.dg_model.specs.Blocks.{zeros}
 use Rattle.dg_model.specs.States.{State}
+use Rattle.dg_pair.specs.Kept.{KeepsNothing}
 use Rattle.dg_run.proofs.arrays.Array.new.Goals as goal
 use Rattle.dg_store.specs.ReadLaws.{own_or_blank}
 use Rattle.dg_volume.specs.HeldLaws.{own_then}
@@ -26,4 +27,5 @@ returns g c =
         sized = ap (λ (s : State). length s.blocks) made.blank.is ∙ length-replicate c.args.shape.n (zeros c.args.shape.l)
             ∙ ap (λ (s : State). s.table.shape.n) (sym made.blank.is);
       };
+      nothing = subst (λ r. KeepsNothing g.R.Rack.keeps c.args.rack r) (sym into.rack_is) made.nothing;
     }

@@ -41,7 +41,7 @@ returns-clause-commits g c =
     let old : Double g.row.R.Denot = record { rack = c.self.inside.rack; memory = c.self.inside.memory; tally = c.self.inside.tally } in
     let new : Double g.row.R.Denot = record { rack = c.commit_members-made.new.rack; memory = c.commit_members-made.new.memory; tally = c.note_fallen.new.self } in
     subst (λ (s : Double g.row.R.Denot). CommitsBehind g.R.Rack s new) c.self.view_is
-    (commits_behind g.R.Rack c.flags_of-served.result c.commit_members-made.new.serving old new c.commit_members-made.ensures.leaves)
+    (commits_behind g.R.Rack c.flags_of-served.result c.commit_members-made.new.serving old new c.commit_members-made.ensures.leaves c.note_fallen.ensures)
 
 pub returns-clause-calls : goal.returns-clause-calls
 returns-clause-calls g c =

@@ -3,7 +3,7 @@ use Rattle.std.specs.Prelude.{IfOk, IfSome, None}
 use Rattle.dg_io.specs.RackCalls.RackCall.{looks}
 use Rattle.dg_io.specs.RackWords.{Leaves}
 use Rattle.dg_io.specs.Told.{IsEmpty, IsSame, Measures, Told}
-use Rattle.dg_stop.proofs.CallLemmas.{absent_told, found_stands, found_told, seen_itself, tally_of}
+use Rattle.dg_stop.proofs.CallLemmas.{absent_told, fallen_or, found_stands, found_told, seen_itself, tally_of}
 use Rattle.dg_stop.proofs.MemberLemmas.{idle_keeps, idle_steps}
 use Rattle.dg_stop.proofs.StepLemmas.{leaves_double, made_double, stand_own}
 use Rattle.dg_stop.specs.Doubles.{Double, DoubleMade, double_bytes, double_stands, double_words, seen_in}
@@ -29,7 +29,8 @@ returns-clause-made g c =
     let old : Double g.row.R.Denot = record { rack = c.self.inside.rack; memory = c.self.inside.memory; tally = c.self.inside.tally } in
     let new : Double g.row.R.Denot = record { rack = c.self.inside.rack; memory = c.self.inside.memory; tally = c.note.new.self } in
     subst (λ (s : Double g.row.R.Denot). DoubleMade g.R.Rack s (looks m ∷ []) new) c.self.view_is
-    (made_double g.R.Rack (looks m) m refl r old new (idle_steps g.R.Rack (looks m) m r c.self.inside.memory c.self.inside.rack c.self.invariant) (tally_of m r c.is_err.result c.self.inside.tally c.note.new.self c.is_err.ensures.value c.note.ensures.notes) (λ no. (idle_keeps g.R.Rack c.self.inside.memory c.self.inside.rack)) (λ plain. absurd (plain refl)))
+    (made_double g.R.Rack (looks m) m refl r old new (idle_steps g.R.Rack (looks m) m r c.self.inside.memory c.self.inside.rack c.self.invariant) (tally_of m r c.is_err.result c.self.inside.tally c.note.new.self c.is_err.ensures.value c.note.ensures.notes) (λ no. (idle_keeps g.R.Rack c.self.inside.memory c.self.inside.rack)) (λ plain. absurd (plain refl))
+    (λ look tells. fallen_or r _ _ _ c.find_member-result.ensures.err))
 
 pub returns-clause-writes : goal.returns-clause-writes
 returns-clause-writes g c =

@@ -38,7 +38,7 @@ returns-clause-made g c =
     let old : Double g.row.R.Denot = record { rack = c.self.inside.rack; memory = c.self.inside.memory; tally = c.self.inside.tally } in
     let new : Double g.row.R.Denot = record { rack = c.blank_member-result.new.rack; memory = c.blank_member-result.new.memory; tally = c.note_write.new.self } in
     subst (λ (s : Double g.row.R.Denot). DoubleMade g.R.Rack s (blanks m ∷ []) new) c.self.view_is
-    (made_double g.R.Rack (blanks m) m refl r old new c.blank_member-result.ensures.steps (tally_of m r c.is_err.result c.self.inside.tally c.note_write.new.self c.is_err.ensures.value c.note_write.ensures.notes) (λ no. absurd no) (λ plain. absurd (plain refl)))
+    (made_double g.R.Rack (blanks m) m refl r old new c.blank_member-result.ensures.steps (tally_of m r c.is_err.result c.self.inside.tally c.note_write.new.self c.is_err.ensures.value c.note_write.ensures.notes) (λ no. absurd no) (λ plain. absurd (plain refl)) (λ look. absurd (look refl)))
 
 pub returns-clause-writes : goal.returns-clause-writes
 returns-clause-writes g c =

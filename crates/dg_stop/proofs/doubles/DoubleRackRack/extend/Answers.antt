@@ -34,7 +34,7 @@ returns-clause-made g c =
     let old : Double g.row.R.Denot = record { rack = c.self.inside.rack; memory = c.self.inside.memory; tally = c.self.inside.tally } in
     let new : Double g.row.R.Denot = record { rack = c.self.inside.rack; memory = c.extend_member-result.new.memory; tally = c.note_write.new.self } in
     subst (λ (s : Double g.row.R.Denot). DoubleMade g.R.Rack s (extends m ∷ []) new) c.self.view_is
-    (made_double g.R.Rack (extends m) m refl r old new (extend_steps g.R.Rack m c.self.inside.memory c.self.inside.rack c.self.invariant c.extend_member-result.new.memory r c.extend_member-result.ensures.ok c.extend_member-result.ensures.err) (tally_of m r c.is_err.result c.self.inside.tally c.note_write.new.self c.is_err.ensures.value c.note_write.ensures.notes) (λ no. (extend_keeps g.R.Rack m c.self.inside.memory c.self.inside.rack c.self.invariant c.extend_member-result.new.memory r c.extend_member-result.ensures.ok c.extend_member-result.ensures.err)) (λ plain. absurd (plain refl)))
+    (made_double g.R.Rack (extends m) m refl r old new (extend_steps g.R.Rack m c.self.inside.memory c.self.inside.rack c.self.invariant c.extend_member-result.new.memory r c.extend_member-result.ensures.ok c.extend_member-result.ensures.err) (tally_of m r c.is_err.result c.self.inside.tally c.note_write.new.self c.is_err.ensures.value c.note_write.ensures.notes) (λ no. (extend_keeps g.R.Rack m c.self.inside.memory c.self.inside.rack c.self.invariant c.extend_member-result.new.memory r c.extend_member-result.ensures.ok c.extend_member-result.ensures.err)) (λ plain. absurd (plain refl)) (λ look. absurd (look refl)))
 
 pub returns-clause-writes : goal.returns-clause-writes
 returns-clause-writes g c =

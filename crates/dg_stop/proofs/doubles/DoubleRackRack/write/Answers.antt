@@ -6,7 +6,7 @@ use Rattle.dg_io.specs.Told.{Patched, Told, Torn}
 use Rattle.dg_model.specs.Causes.{RoseByOne}
 use Rattle.dg_stop.proofs.CallLemmas.{due_told, tally_of}
 use Rattle.dg_stop.proofs.PieceLemmas.{OnErr-always}
-use Rattle.dg_stop.proofs.StepLemmas.{leaves_double, made_double}
+use Rattle.dg_stop.proofs.StepLemmas.{leaves_double, made_called}
 use Rattle.dg_stop.specs.DoubleLaws.{both_of}
 use Rattle.dg_stop.specs.Doubles.{Double, DoubleMade, double_bytes, double_stands, double_words, stands_in}
 use Rattle.dg_stop.specs.Behind.{MostCalls}
@@ -46,7 +46,7 @@ returns-clause-made g c =
     let old : Double g.row.R.Denot = record { rack = c.self.inside.rack; memory = c.self.inside.memory; tally = c.self.inside.tally } in
     let new : Double g.row.R.Denot = record { rack = c.write_member-result.new.rack; memory = c.write_member-result.new.memory; tally = c.note_write.new.self } in
     subst (λ (s : Double g.row.R.Denot). DoubleMade g.R.Rack s (calls m ∷ []) new) c.self.view_is
-    (made_double g.R.Rack (calls m) m refl r old new c.write_member-result.ensures.steps (tally_of m r c.is_err.result c.self.inside.tally c.note_write.new.self c.is_err.ensures.value c.note_write.ensures.notes) (λ no. c.write_member-result.ensures.keeps) (λ plain tells.
+    (made_called g.R.Rack (calls m) m refl r old new c.write_member-result.ensures.steps (tally_of m r c.is_err.result c.self.inside.tally c.note_write.new.self c.is_err.ensures.value c.note_write.ensures.notes) c.write_member-result.ensures.keeps (λ tells.
     let stand = both_of (stands_in c.self.inside.memory m) (g.R.Rack.stands c.self.inside.rack m)
     (subst (λ (s : Double g.row.R.Denot). double_stands g.R.Rack s m ≡ true) (sym c.self.view_is) c.requires.stands) in
     due_told g.R.Rack g.met.R.Rack.told c.self.inside.memory m (c.args.place + length c.args.buf.now) c.self.inside.rack c.write_member-result.new.rack r (c.write_member-result.ensures.steps.told_before m tells) stand.1

@@ -16,6 +16,7 @@ returns g c =
       stays = row.rack;
       made = row.made;
       own = row.own;
+      nothing = row.nothing;
       fell = row.fell;
       blanked = row.zeros;
       stands = rw empty (stands_blank _ _ c.args.shape);

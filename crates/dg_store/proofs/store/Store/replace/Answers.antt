@@ -40,6 +40,7 @@ returns g c =
           (λ stands. s.long q (λ out. stands (sym (changed.was q here) ∙ out))) serving))
           s.built.block s.built.given_up;
       stays = record { shape = refl; stays = stays_of g.R.Rack g.met.R.Rack.after leaves; own = own_blanked g.R.Rack part.pair.number_is c.requires.boundary leaves };
+      keeps = k.keeps;
       faulty = fell_changed c.args.boundary _ _ _ _ changed _ _ (λ q off. leaves.other_faults q (λ here. off (here ∙ part.pair.number_is))) leaves.fell;
       table = search rules;
       lost = (λ is. lost ∙ k.lost.0 is, λ is. k.lost.1 (sym lost ∙ is));

@@ -44,11 +44,15 @@ returns-then-has_good-clause-kept g c =
       record {
         mid = m;
         answer = c.commit_good.result;
+        sequence = c.in-Saved.sequence;
         saved = c.save.ensures.leaves;
+        steps =
+            subst (λ (r : SaveAnswer). StepsHot g.S.InPhase g.S.InPhase g.R.Rack c.args.hot.now c.args.self.now Save (save_reply r) m) c.in-Saved.is c.in_ok-sequence.ensures.steps;
         commits =
             subst (λ (bytes : List ℕ). CommitsArray g.R.Rack g.R.Checkpoint.room_of g.R.Checkpoint.commits bytes c.commit_good.result m.store c.commit_good.new.store) says c.commit_good.ensures;
         live = refl;
       },
+      refl,
       c.has_good.ensures.some c.if-has_good.true,
     )
 
@@ -75,7 +79,10 @@ returns-clause-kept g c =
       record {
         mid = m;
         answer = c.commit_good.result;
+        sequence = c.in-Saved.sequence;
         saved = c.save.ensures.leaves;
+        steps =
+            subst (λ (r : SaveAnswer). StepsHot g.S.InPhase g.S.InPhase g.R.Rack c.args.hot.now c.args.self.now Save (save_reply r) m) c.in-Saved.is c.in_ok-sequence.ensures.steps;
         commits =
             subst (λ (bytes : List ℕ). CommitsArray g.R.Rack g.R.Checkpoint.room_of g.R.Checkpoint.commits bytes c.commit_good.result m.store c.commit_good.new.store) says c.commit_good.ensures;
         live = refl;

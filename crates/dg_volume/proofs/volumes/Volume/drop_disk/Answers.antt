@@ -6,24 +6,24 @@ pub returns-in-Already-clause-steps : goal.returns-in-Already-clause-steps
 returns-in-Already-clause-steps g c =
     let s = c.in-Some-place in
     steps_already g.S.InPhase g.R.Rack g.R.Disks.width g.R.Disks.groups c.args.self.now c.drop_at.new.store c.args.boundary s.place c.args.disk c.requires.well
-    (record { number = omega arith; is = s.ensures.some; within = omega (arith, s.ensures.within, c.requires.well.in_use.number) }) c.in-Already.ensures.handles
+    (omega arith) s.ensures.some s.ensures.within c.in-Already.ensures.handles
 
 pub returns-in-Already-clause-on : goal.returns-in-Already-clause-on
 returns-in-Already-clause-on g c =
     let s = c.in-Some-place in
     goes g.S.InPhase g.R.Rack g.R.Disks.width g.R.Disks.groups c.args.self.now c.drop_at.new.store c.args.boundary s.place c.args.disk c.requires.well
-    (record { number = omega arith; is = s.ensures.some; within = omega (arith, s.ensures.within, c.requires.well.in_use.number) }) false c.in-Already.ensures.handles
+    (omega arith) s.ensures.some s.ensures.within false c.in-Already.ensures.handles
 
 pub returns-in-Dropped-clause-steps : goal.returns-in-Dropped-clause-steps
 returns-in-Dropped-clause-steps g c =
     let s = c.in-Some-place in
     steps_dropped g.S.InPhase g.R.Rack g.R.Disks.width g.R.Disks.groups c.args.self.now c.drop_at.new.store c.args.boundary s.place c.args.disk c.requires.well
-    (record { number = omega arith; is = s.ensures.some; within = omega (arith, s.ensures.within, c.requires.well.in_use.number) }) c.in-Dropped.field-0
+    (omega arith) s.ensures.some s.ensures.within c.in-Dropped.field-0
     c.in-Dropped.ensures.handles
 
 pub returns-in-Dropped-clause-on : goal.returns-in-Dropped-clause-on
 returns-in-Dropped-clause-on g c =
     let s = c.in-Some-place in
     goes g.S.InPhase g.R.Rack g.R.Disks.width g.R.Disks.groups c.args.self.now c.drop_at.new.store c.args.boundary s.place c.args.disk c.requires.well
-    (record { number = omega arith; is = s.ensures.some; within = omega (arith, s.ensures.within, c.requires.well.in_use.number) }) c.in-Dropped.field-0
+    (omega arith) s.ensures.some s.ensures.within c.in-Dropped.field-0
     c.in-Dropped.ensures.handles

@@ -11,47 +11,47 @@ pub returns-in-Lost-clause-steps : goal.returns-in-Lost-clause-steps
 returns-in-Lost-clause-steps g c =
     let s = c.in-Some-place in
     steps_lost g.S.InPhase g.R.Rack g.R.Disks.width g.R.Disks.groups c.args.self.now c.mend_at.new.store c.args.boundary s.place c.args.disk c.requires.well
-    (record { number = omega arith; is = s.ensures.some; within = omega (arith, s.ensures.within, c.requires.well.in_use.number) }) c.in-Lost.ensures.handles (sym c.is_lost_at.ensures ∙ c.if-is_lost_at.false)
+    (omega arith) s.ensures.some s.ensures.within c.in-Lost.ensures.handles (sym c.is_lost_at.ensures ∙ c.if-is_lost_at.false)
     (subst (λ (width : Option ℕ). IfSome width (λ n. AreSingle c.args.self.now)) (sym c.in-Some.ensures) c.requires.single s.place)
 
 pub returns-in-Lost-clause-on : goal.returns-in-Lost-clause-on
 returns-in-Lost-clause-on g c =
     let s = c.in-Some-place in
     goes g.S.InPhase g.R.Rack g.R.Disks.width g.R.Disks.groups c.args.self.now c.mend_at.new.store c.args.boundary s.place c.args.disk c.requires.well
-    (record { number = omega arith; is = s.ensures.some; within = omega (arith, s.ensures.within, c.requires.well.in_use.number) }) true c.in-Lost.ensures.handles
+    (omega arith) s.ensures.some s.ensures.within true c.in-Lost.ensures.handles
 
 pub returns-in-NotOut-clause-steps : goal.returns-in-NotOut-clause-steps
 returns-in-NotOut-clause-steps g c =
     let s = c.in-Some-place in
     steps_not_out g.S.InPhase g.R.Rack g.R.Disks.width g.R.Disks.groups c.args.self.now c.mend_at.new.store c.args.boundary s.place c.args.disk c.requires.well
-    (record { number = omega arith; is = s.ensures.some; within = omega (arith, s.ensures.within, c.requires.well.in_use.number) }) c.in-NotOut.ensures.handles (sym c.is_lost_at.ensures ∙ c.if-is_lost_at.false)
+    (omega arith) s.ensures.some s.ensures.within c.in-NotOut.ensures.handles (sym c.is_lost_at.ensures ∙ c.if-is_lost_at.false)
 
 pub returns-in-NotOut-clause-on : goal.returns-in-NotOut-clause-on
 returns-in-NotOut-clause-on g c =
     let s = c.in-Some-place in
     goes g.S.InPhase g.R.Rack g.R.Disks.width g.R.Disks.groups c.args.self.now c.mend_at.new.store c.args.boundary s.place c.args.disk c.requires.well
-    (record { number = omega arith; is = s.ensures.some; within = omega (arith, s.ensures.within, c.requires.well.in_use.number) }) false c.in-NotOut.ensures.handles
+    (omega arith) s.ensures.some s.ensures.within false c.in-NotOut.ensures.handles
 
 pub returns-in-Failed-clause-steps : goal.returns-in-Failed-clause-steps
 returns-in-Failed-clause-steps g c =
     let s = c.in-Some-place in
     steps_failed g.S.InPhase g.R.Rack g.R.Disks.width g.R.Disks.groups c.args.self.now c.mend_at.new.store c.args.boundary s.place c.args.disk c.requires.well
-    (record { number = omega arith; is = s.ensures.some; within = omega (arith, s.ensures.within, c.requires.well.in_use.number) }) c.in-Failed.ensures.handles (sym c.is_lost_at.ensures ∙ c.if-is_lost_at.false)
+    (omega arith) s.ensures.some s.ensures.within c.in-Failed.ensures.handles (sym c.is_lost_at.ensures ∙ c.if-is_lost_at.false)
 
 pub returns-in-Failed-clause-on : goal.returns-in-Failed-clause-on
 returns-in-Failed-clause-on g c =
     let s = c.in-Some-place in
     goes g.S.InPhase g.R.Rack g.R.Disks.width g.R.Disks.groups c.args.self.now c.mend_at.new.store c.args.boundary s.place c.args.disk c.requires.well
-    (record { number = omega arith; is = s.ensures.some; within = omega (arith, s.ensures.within, c.requires.well.in_use.number) }) false c.in-Failed.ensures.handles
+    (omega arith) s.ensures.some s.ensures.within false c.in-Failed.ensures.handles
 
 pub returns-in-Mended-clause-steps : goal.returns-in-Mended-clause-steps
 returns-in-Mended-clause-steps g c =
     let s = c.in-Some-place in
     steps_mended g.S.InPhase g.R.Rack g.R.Disks.width g.R.Disks.groups c.args.self.now c.mend_at.new.store c.args.boundary s.place c.args.disk c.requires.well
-    (record { number = omega arith; is = s.ensures.some; within = omega (arith, s.ensures.within, c.requires.well.in_use.number) }) c.in-Mended.ensures.handles c.in-Mended.stripes (sym c.is_lost_at.ensures ∙ c.if-is_lost_at.false)
+    (omega arith) s.ensures.some s.ensures.within c.in-Mended.ensures.handles c.in-Mended.stripes (sym c.is_lost_at.ensures ∙ c.if-is_lost_at.false)
 
 pub returns-in-Mended-clause-on : goal.returns-in-Mended-clause-on
 returns-in-Mended-clause-on g c =
     let s = c.in-Some-place in
     goes g.S.InPhase g.R.Rack g.R.Disks.width g.R.Disks.groups c.args.self.now c.mend_at.new.store c.args.boundary s.place c.args.disk c.requires.well
-    (record { number = omega arith; is = s.ensures.some; within = omega (arith, s.ensures.within, c.requires.well.in_use.number) }) false c.in-Mended.ensures.handles
+    (omega arith) s.ensures.some s.ensures.within false c.in-Mended.ensures.handles

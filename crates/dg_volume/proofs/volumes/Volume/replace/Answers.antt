@@ -1,14 +1,16 @@
-use Rattle.std.proofs.Common.{◌∙◌, ◌+◌, ◌*◌, ℕ, refl, ap, subst, arith}
+use Rattle.std.proofs.Common.{◌∙◌, ◌+◌, ◌*◌, ℕ, refl, ap, subst, sym, arith}
+use Rattle.dg_io.specs.MakesLaws.{makes_none}
 use Rattle.dg_io.specs.Told.{IsZeros}
 use Rattle.dg_label.specs.LineLaws.{line_on}
 use Rattle.dg_model.specs.Saves.{member_length}
 use Rattle.dg_model.specs.declared.shapes.Shape.{Shape}
 use Rattle.dg_store.specs.Leaves.{BytesChange}
-use Rattle.dg_store.specs.Stores.{shape_of}
-use Rattle.dg_volume.proofs.ReplaceSteps.{HasReplaced, line_enough, replace_leaves, replace_steps, steps_unused}
+use Rattle.dg_store.specs.Stores.{rack_of, shape_of}
+use Rattle.dg_volume.proofs.ReplaceSteps.{HasReplaced, line_enough, replace_leaves, replace_steps, replacement_ends, steps_unused}
 use Rattle.dg_volume.proofs.VolumeLaws.{leaves_none}
 use Rattle.dg_volume.proofs.volumes.Volume.replace.Goals as goal
 use Rattle.dg_volume.specs.HeldLaws.{leaves_or_blank}
+use Rattle.dg_volume.specs.Refills.{EndsReplacement}
 use Rattle.dg_volume.specs.Volumes.{line_of}
 
 pub returns : goal.returns
@@ -49,8 +51,23 @@ returns g c =
     record {
       leaves = replace_leaves g.S.InPhase g.R.Rack a c.in-Some.place c.args.side c.replace-answer.result c.can_replace-opens.result m b c.requires.well h;
       steps = rw c.answered.ensures (replace_steps g.S.InPhase g.R.Rack a c.in-Some.place c.args.side c.replace-answer.result c.can_replace-opens.result m b c.requires.well h);
+      keeps = record {
+        mid = rack_of m;
+        opened = c.open_where.ensures.array.stays.own.made;
+        ends =
+            let place = c.in-Some.ensures.some in
+            subst (λ (s : ℕ). EndsReplacement g.R.Rack (2 * s + c.args.side) c.answered.result (rack_of m) (rack_of b.store)) (sym place)
+            (rw c.answered.ensures (replacement_ends g.R.Rack (2 * c.in-Some.place + c.args.side) c.replace-answer.result (rack_of m) (rack_of b.store) k.keeps));
+        unused = λ e. absurd (omega (arith, e, c.in-Some.ensures.some, c.in-Some.ensures.within));
+      };
       given = refl;
     }
+
+pub returns-then-boundary-self-clause-keeps : goal.returns-then-boundary-self-clause-keeps
+returns-then-boundary-self-clause-keeps g c = record { mid = rack_of c.args.self.now.store; opened = makes_none g.R.Rack _ _; ends = refl; unused = λ e. refl }
+
+pub returns-in_default-clause-keeps : goal.returns-in_default-clause-keeps
+returns-in_default-clause-keeps g c = record { mid = rack_of c.args.self.now.store; opened = makes_none g.R.Rack _ _; ends = refl; unused = λ e. refl }
 
 pub returns-then-boundary-self-clause-leaves : goal.returns-then-boundary-self-clause-leaves
 returns-then-boundary-self-clause-leaves g c =
