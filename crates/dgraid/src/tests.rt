@@ -7,8 +7,9 @@ use dg_io::{Failed, Rack, Sink, Source};
 use std::fs;
 use std::test::Fail;
 
+// One run has the folder at a time, so all that is said of image files goes in turn.
 #[test]
-fn image_files_keep_bytes(rt: HostRuntime) -> Result<(), Fail> {
+fn image_files_serve(rt: HostRuntime) -> Result<(), Fail> {
     let search = Search::new();
     let mut rack = ImageRack::new(rt, Purpose::Write, &search)?;
     let mut bytes = [b'-'; 4];
@@ -21,9 +22,11 @@ fn image_files_keep_bytes(rt: HostRuntime) -> Result<(), Fail> {
     assert_eq!(rt; rack.blank(32, 8), Err(Failed), "no such member");
     rack.extend(31, 9)?;
     let all = fs::read(&rt, "member-15-1.img")?;
-    let mut other = ImageRack::new(rt, Purpose::Write, &search)?;
-    assert_eq!(rt; other.attach(31), Err(Failed), "in use");
+    let mut second = ImageRack::new(rt, Purpose::Write, &search)?;
+    assert_eq!(rt; second.attach(31), Err(Failed), "in use");
     drop(rack);
+    assert_eq!(rt; second.attach(31), Err(Failed), "asked for once");
+    let mut other = ImageRack::new(rt, Purpose::Write, &search)?;
     assert_eq!(rt; other.attach(31), Ok(Some(9)));
     other.read(31, 2, &mut bytes)?;
     assert_eq!(rt; bytes, *b"\0hi\0");
@@ -38,12 +41,8 @@ fn image_files_keep_bytes(rt: HostRuntime) -> Result<(), Fail> {
     assert_eq!(rt; all.as_slice(), b"\0\0\0hi\0\0\0\0".as_slice());
     assert_eq!(rt; aside.as_slice(), b"\0\0\0\0".as_slice());
     assert_eq!(rt; last.attach(32), Ok(None));
-    Ok(())
-}
-
-#[test]
-fn a_run_that_reads_completes_no_header(rt: HostRuntime) -> Result<(), Fail> {
-    let search = Search::new();
+    drop(last);
+    // A run that reads completes no header.
     let mut rack = ImageRack::new(rt, Purpose::Write, &search)?;
     rack.blank(29, 1024)?;
     drop(rack);
