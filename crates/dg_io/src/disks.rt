@@ -1,6 +1,6 @@
 // Racks that may have groups of disks for members.
-ghost use Rattle.std.specs.Prelude.{◌≡◌, ◌↔◌, ◌<◌, ℕ, Option, None, IfSome};
-ghost use Rattle.dg_io.specs.DiskAnswers.{OneDisk, DropsDisk, MendsDisk, LeavesMembers};
+ghost use Rattle.std.specs.Prelude.{◌≡◌, ◌↔◌, ◌<◌, ◌+◌, ◌*◌, ℕ, Option, None, IfSome, IsSome, true, false};
+ghost use Rattle.dg_io.specs.DiskAnswers.{OneDisk, DropsDisk, MendsDisk, LeavesMembers, is_group_lost};
 
 use crate::Rack;
 
@@ -30,45 +30,44 @@ pub enum MendAnswer {
     Mended(u32),
 }
 
-/// A rack whose members are groups of disks, or a plain one.
+/// A rack whose members are groups of disks, or a plain one. Member 2s is group s, and member 2s + 1 is never there.
 pub trait Disks: Rack {
-    /// How many disks a group has, or none of a plain rack.
-    ghost width: { Self → Option ℕ };
-
-    /// How many groups it has.
-    ghost groups: { Self → ℕ };
+    /// What a call on a disk of a group, given by their numbers, may leave of it and of what it stands on.
+    ghost handles: { Self → ℕ → ℕ → Self → Type 0 };
 
     /// A disk of a group goes out.
     fn drop_disk(&mut self, s: u8, j: u8) -> DropAnswer
-        requires place { IfSome (width self.old) (λ n. (s < groups self.old) × (j < n)) }
-        ensures plain { (result ≡ DropAnswer.Plain) ↔ (width self.old ≡ None) }
-        ensures idle { width self.old ≡ None → self.new ≡ self.old }
-        ensures answer { IfSome (width self.old) (λ n. DropsDisk n s j (Self.disks self.old) (Self.disks self.new) result) }
+        requires place { IfSome (Self.disks self.old).width (λ n. (s < (Self.disks self.old).groups) × (j < n)) }
+        ensures plain { (result ≡ DropAnswer.Plain) ↔ ((Self.disks self.old).width ≡ None) }
+        ensures idle { (Self.disks self.old).width ≡ None → self.new ≡ self.old }
+        ensures answer { IfSome (Self.disks self.old).width (λ n. DropsDisk n s j (Self.disks self.old) (Self.disks self.new) result) }
         ensures disks { OneDisk s j (Self.disks self.old) (Self.disks self.new) }
-        ensures leaves { LeavesMembers Self.Rack self.old self.new }
-        ensures width { width self.new ≡ width self.old }
-        ensures groups { groups self.new ≡ groups self.old };
+        ensures leaves { LeavesMembers Self.Rack s self.old self.new }
+        ensures handles { IsSome (Self.disks self.old).width → handles self.old s j self.new };
 
     /// A disk of a group comes back, and is filled from the others.
     fn mend(&mut self, s: u8, j: u8) -> MendAnswer
-        requires place { IfSome (width self.old) (λ n. (s < groups self.old) × (j < n)) }
-        ensures plain { (result ≡ MendAnswer.Plain) ↔ (width self.old ≡ None) }
-        ensures idle { width self.old ≡ None → self.new ≡ self.old }
-        ensures answer { IfSome (width self.old) (λ n. MendsDisk n s j (Self.disks self.old) (Self.disks self.new) result) }
+        requires place { IfSome (Self.disks self.old).width (λ n. (s < (Self.disks self.old).groups) × (j < n)) }
+        ensures plain { (result ≡ MendAnswer.Plain) ↔ ((Self.disks self.old).width ≡ None) }
+        ensures idle { (Self.disks self.old).width ≡ None → self.new ≡ self.old }
+        ensures answer { IfSome (Self.disks self.old).width (λ n. MendsDisk n s j (Self.disks self.old) (Self.disks self.new) result) }
         ensures disks { OneDisk s j (Self.disks self.old) (Self.disks self.new) }
-        ensures leaves { LeavesMembers Self.Rack self.old self.new }
-        ensures width { width self.new ≡ width self.old }
-        ensures groups { groups self.new ≡ groups self.old };
+        ensures leaves { LeavesMembers Self.Rack s self.old self.new }
+        ensures handles { IsSome (Self.disks self.old).width → handles self.old s j self.new };
 
     /// How many disks a group has, or `None` of a plain rack.
     fn disks(&self) -> Option<u8>
-        ensures { result ≡ width self.now };
+        ensures { result ≡ (Self.disks self.now).width };
+
+    /// No second member stands of a rack of groups.
+    ghost single: { (it : Self) (x : ℕ) → IsSome (Self.disks it).width → Self.stands it (2 * x + 1) ≡ false };
+
+    /// No member stands of a group of which two disks are out.
+    ghost lost: { (it : Self) (x : ℕ) → IfSome (Self.disks it).width (λ n. is_group_lost n (Self.disks it).out x ≡ true → Self.stands it (2 * x) ≡ false) };
 }
 
 impl<R: Disks> Disks for &mut R {
-    ghost width = { λ r. R.width r.now };
-
-    ghost groups = { λ r. R.groups r.now };
+    ghost handles = { λ old s j new. R.handles old.now s j new.now };
 
     fn drop_disk(&mut self, s: u8, j: u8) -> DropAnswer {
         (**self).drop_disk(s, j)
@@ -81,4 +80,8 @@ impl<R: Disks> Disks for &mut R {
     fn disks(&self) -> Option<u8> {
         (**self).disks()
     }
+
+    ghost single = { λ it x some. R.single it.now x some };
+
+    ghost lost = { λ it x. R.lost it.now x };
 }

@@ -1,5 +1,6 @@
 // The racks in memory are plain: they keep no checkpoint, and have no disks.
 ghost use Rattle.std.specs.Prelude.{◌≡◌, None};
+ghost use Rattle.std.proofs.lemmas.Bool.{false≢true};
 
 use crate::{Checkpoint, CommitAnswer, Disks, DropAnswer, MemRack, MendAnswer, SureRack};
 
@@ -21,9 +22,7 @@ impl Checkpoint for MemRack {
 }
 
 impl Disks for MemRack {
-    ghost width = { λ rack. None };
-
-    ghost groups = { λ rack. 0 };
+    ghost handles = { λ old s j new. new ≡ old };
 
     fn drop_disk(&mut self, _s: u8, _j: u8) -> DropAnswer {
         DropAnswer::Plain
@@ -36,6 +35,10 @@ impl Disks for MemRack {
     fn disks(&self) -> Option<u8> {
         None
     }
+
+    ghost single = { λ it x some. absurd (false≢true some) };
+
+    ghost lost = { λ it x. tt };
 }
 
 impl Checkpoint for SureRack {
@@ -56,9 +59,7 @@ impl Checkpoint for SureRack {
 }
 
 impl Disks for SureRack {
-    ghost width = { λ rack. None };
-
-    ghost groups = { λ rack. 0 };
+    ghost handles = { λ old s j new. new ≡ old };
 
     fn drop_disk(&mut self, _s: u8, _j: u8) -> DropAnswer {
         DropAnswer::Plain
@@ -71,4 +72,8 @@ impl Disks for SureRack {
     fn disks(&self) -> Option<u8> {
         None
     }
+
+    ghost single = { λ it x some. absurd (false≢true some) };
+
+    ghost lost = { λ it x. tt };
 }
