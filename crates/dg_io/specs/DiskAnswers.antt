@@ -57,3 +57,8 @@ pub record LeavesMembers {S : Type 0} (rack : Ghosts S) (s : ℕ) (old new : S) 
   pub same : (q : ℕ) → Told IsSame (rack.bytes old q) (rack.bytes new q)
   pub told_before : (q : ℕ) → rack.tells new q → rack.tells old q
   pub keeps_on : KeepsOn rack.keeps old new
+
+-- what a call on disk j of group s leaves of its disks and of the rack
+pub record HandlesAs {S : Type 0} (rack : Ghosts S) (s j : ℕ) (old new : S) : Type 0 where
+  pub one : OneDisk s j (rack.disks old) (rack.disks new)
+  pub leaves : LeavesMembers rack s old new
