@@ -38,6 +38,7 @@ pub trait Disks: Rack {
         ensures plain { (result ≡ DropAnswer.Plain) ↔ ((Self.disks self.old).width ≡ None) }
         ensures idle { (Self.disks self.old).width ≡ None → self.new ≡ self.old }
         ensures answer { IfSome (Self.disks self.old).width (λ n. DropsDisk n s j (Self.disks self.old) (Self.disks self.new) result) }
+        ensures already { result ≡ DropAnswer.Already → self.new ≡ self.old }
         ensures disks { OneDisk s j (Self.disks self.old) (Self.disks self.new) }
         ensures leaves { LeavesMembers Self.Rack s self.old self.new }
         ensures handles { IsSome (Self.disks self.old).width → Self.handles self.old s j self.new };
@@ -48,6 +49,7 @@ pub trait Disks: Rack {
         ensures plain { (result ≡ MendAnswer.Plain) ↔ ((Self.disks self.old).width ≡ None) }
         ensures idle { (Self.disks self.old).width ≡ None → self.new ≡ self.old }
         ensures answer { IfSome (Self.disks self.old).width (λ n. MendsDisk n s j (Self.disks self.old) (Self.disks self.new) result) }
+        ensures not_out { result ≡ MendAnswer.NotOut → self.new ≡ self.old }
         ensures disks { OneDisk s j (Self.disks self.old) (Self.disks self.new) }
         ensures leaves { LeavesMembers Self.Rack s self.old self.new }
         ensures handles { IsSome (Self.disks self.old).width → Self.handles self.old s j self.new };
