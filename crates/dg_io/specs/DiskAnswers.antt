@@ -29,6 +29,8 @@ pub record OneDisk (s j : ℕ) (old new : DiskStates) : Type 0 where
 -- The answers, by the disks before and after. n is how many disks a group has.
 pub record DropsDisk (n s j : ℕ) (old new : DiskStates) (answer : DropAnswer) : Type 0 where
   pub already : (answer ≡ Already) ↔ (old.out s j ≡ true)
+  -- where it was out, nothing is done
+  pub idle : answer ≡ Already → new ≡ old
   pub out : new.out s j ≡ true
   pub dropped : (lost : Bool) → answer ≡ Dropped lost → lost ≡ is_group_lost n new.out s
 
