@@ -12,10 +12,10 @@ use Rattle.dg_model.specs.Causes.{Rose}
 use Rattle.dg_model.specs.Lives.{boundary_at, member_at}
 use Rattle.dg_regroup.specs.LiveGhosts.{live as live_words}
 use Rattle.dg_regroup.specs.LivePlaces.{by_there}
-use Rattle.dg_regroup.specs.LiveRacks.{IsKeptAt, is_there, live_disks, live_groups, live_keeps, live_room, live_stands}
+use Rattle.dg_regroup.specs.LiveRacks.{IsKeptAt, IsThrough, is_there, live_disks, live_groups, live_keeps, live_room, live_stands}
 use Rattle.dg_regroup.specs.Marks.{AreMarksBelow, AreMarksHere, IsAnswerHere}
 use Rattle.dg_regroup.specs.declared.live_racks.LiveRack.{LiveRack}
-use Rattle.dg_regroup.proofs.LiveCalls.{IsThrough, here_only}
+use Rattle.dg_regroup.proofs.LiveCalls.{here_only}
 
 both_are : (a b : Bool) → (a && b) ≡ true → (a ≡ true) × (b ≡ true)
 both_are true true is = (refl, refl)
@@ -26,7 +26,7 @@ both_are false b is = absurd (false≢true is)
 abbrev pub by_places : List ℕ → Kept → Kept
 by_places live next = record { entries = λ q. if is_there live q then next.entries (member_at live q) else None; extra = next.extra }
 
-module _ {R : Type 0} (rack : Ghosts R) (room : R → Option ℕ) (keep below : ℕ) (extra : List ℕ) (it new : LiveRack R) (same : IsThrough rack it new)
+module _ {R : Type 0} (rack : Ghosts R) (room : R → Option ℕ) (keep below : ℕ) (extra : List ℕ) (it new : LiveRack R) (same : IsThrough it new)
     (marks : AreMarksBelow it.live.items keep below) (stand : (q : ℕ) → is_marked keep q ≡ true → live_stands rack it q ≡ true) where
   -- who is to be kept is there
   kept_there : (q : ℕ) → is_marked keep q ≡ true → is_there it.live.items q ≡ true

@@ -1,7 +1,7 @@
 -- Calls of a rack of which some members show their first bytes alone leave what each of them leaves.
 use Rattle.std.proofs.Common.{◌≡◌, ◌∙◌, ◌&&◌, ◌+◌, ◌*◌, ℕ, Bool, true, false, not, is_some, List, [], ◌∷◌, ◌++◌, Option, None, Some, IfSome, IsSome, inl, inr, length, refl, sym, ap, subst, arith}
 use Rattle.std.proofs.lemmas.Bool.{and_parts, false≢true}
-use Rattle.dg_io.specs.DiskAnswers.{is_group_lost}
+use Rattle.dg_io.specs.DiskAnswers.{HandlesAs, is_group_lost}
 use Rattle.dg_io.specs.Kept.{KeepsOn}
 use Rattle.dg_io.specs.MadeLaws.{each_back, each_front, same_both, same_told}
 use Rattle.dg_io.specs.Disks.{DiskStates, DisksAfter}
@@ -10,9 +10,10 @@ use Rattle.dg_io.specs.RackCalls.RackCall.{looks, blanks, calls, extends}
 use Rattle.dg_io.specs.RackWords.{After}
 use Rattle.dg_io.specs.Told.{IsSame, Told}
 use Rattle.dg_io.specs.declared.outside.Rack.{Ghosts}
+use Rattle.std.specs.Prelude.{slice_index_or}
 use Rattle.dg_regroup.specs.FrontGhosts.{front}
 use Rattle.dg_regroup.specs.FrontMade.{AreFor, FrontMade, IsFor}
-use Rattle.dg_regroup.specs.FrontRacks.{front_keeps, front_of, front_stands, is_front, is_hidden, shown}
+use Rattle.dg_regroup.specs.FrontRacks.{FrontHandles, front_keeps, front_of, front_stands, is_front, is_hidden, shown}
 use Rattle.dg_regroup.specs.declared.front_racks.FrontRack.{FrontRack}
 
 -- ---- what a member shows
@@ -193,3 +194,23 @@ module _ {R : Type 0} (rack : Ghosts R) where
         → IfSome width (λ n. is_group_lost n (rack.disks it.rack).out x ≡ true → front_stands rack it (2 * x) ≡ false)
     some None down = tt
     some (Some n) down = λ is. not_shown (is_hidden it (2 * x)) (rack.stands it.rack (2 * x)) (down is)
+
+  -- what a call on a disk leaves
+  pub front_handled : ((a b : R) (s j : ℕ) → rack.handles a s j b → HandlesAs rack s j a b)
+      → (a b : FrontRack R) (s j : ℕ) → FrontHandles rack a s j b → HandlesAs (front rack) s j a b
+  front_handled law a b s j h = let under = law a.rack b.rack s j h.below in record {
+    one = under.one;
+    leaves = record {
+      same_rack = under.leaves.same_rack;
+      steady_on = under.leaves.steady_on;
+      counts_stay = rw (h.refused, h.writes, under.leaves.counts_stay) refl;
+      others_stand = λ q differ. rw (h.fronts, h.length, under.leaves.others_stand q differ) refl;
+      stands_on = λ served. rw (h.fronts, h.length, under.leaves.stands_on served) refl;
+      same = λ q. shows_same a b q h.length (shows q) (under.leaves.same q);
+      told_before = under.leaves.told_before;
+      keeps_on = keeps_shown a b h.length shows under.leaves.keeps_on;
+    };
+  }
+    where
+      shows : (q : ℕ) → is_front b q ≡ is_front a q
+      shows q = ap (λ fronts. slice_index_or fronts q false) h.fronts

@@ -87,9 +87,9 @@ pub record FrontCommits {R : Type 0} (commits : R → R → Type 0) (old new : F
   pub refused : new.refused ≡ old.refused
   pub writes : new.writes ≡ old.writes
 
--- What a call on a disk may leave of it, beside its members: what it may leave of the rack below, and nothing else has changed.
-pub record FrontHandles {R : Type 0} (handles : R → ℕ → ℕ → R → Type 0) (old : FrontRack R) (s j : ℕ) (new : FrontRack R) : Type 0 where
-  pub below : handles old.rack s j new.rack
+-- What a call on a disk may leave of it: what it may leave of the rack below, and nothing else has changed.
+pub record FrontHandles {R : Type 0} (rack : Ghosts R) (old : FrontRack R) (s j : ℕ) (new : FrontRack R) : Type 0 where
+  pub below : rack.handles old.rack s j new.rack
   pub length : new.length ≡ old.length
   pub fronts : new.fronts ≡ old.fronts
   pub refused : new.refused ≡ old.refused

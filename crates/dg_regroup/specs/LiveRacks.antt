@@ -113,13 +113,18 @@ pub record LiveCommits {R : Type 0} (commits : R → R → Type 0) (old new : Li
   pub calls : new.calls ≡ old.calls
   pub writes : new.writes ≡ old.writes
 
--- What a call on a disk may leave of it, beside its members: what it may leave of the rack below, and nothing else has changed.
-pub record LiveHandles {R : Type 0} (handles : R → ℕ → ℕ → R → Type 0) (old : LiveRack R) (s j : ℕ) (new : LiveRack R) : Type 0 where
-  pub below : handles old.rack (boundary_at old.live.items s) j new.rack
+-- only the rack below is another one
+pub record IsThrough {R : Type 0} (old new : LiveRack R) : Type 0 where
   pub live : new.live ≡ old.live
   pub absent : new.absent ≡ old.absent
   pub calls : new.calls ≡ old.calls
   pub writes : new.writes ≡ old.writes
+
+-- What a call on a disk of the boundary at a place may leave of it: that is one in use, and it is what it may leave of the rack below.
+pub record LiveHandles {R : Type 0} (rack : Ghosts R) (old : LiveRack R) (s j : ℕ) (new : LiveRack R) : Type 0 where
+  pub in_use : s < length old.live.items
+  pub below : rack.handles old.rack (boundary_at old.live.items s) j new.rack
+  pub through : IsThrough old new
 
 -- ---- the checkpoint's room
 

@@ -1,7 +1,7 @@
 use Rattle.std.proofs.Common.{◌≡◌, ◌<◌, ◌≤◌, ℕ, IfSome, length, slice_index, rules, refl, subst}
 use Rattle.dg_io.specs.DiskAnswers.{LeavesMembers, MendsDisk, OneDisk}
 use Rattle.dg_model.specs.Lives.{boundary_at}
-use Rattle.dg_regroup.proofs.LiveDisks.{group_below, handles_through, members_through, mends_through, none_says, not_in_use, not_some, one_disk_through}
+use Rattle.dg_regroup.specs.LiveDisks.{group_below, members_through, mends_through, none_says, not_in_use, not_some, one_disk_through}
 use Rattle.dg_regroup.proofs.live_racks.LiveRackDisks.mend.Goals as goal
 
 pub mend-requires : goal.mend-requires
@@ -43,8 +43,11 @@ returns-in-Some-clause-leaves g c =
 pub returns-in-Some-clause-handles : goal.returns-in-Some-clause-handles
 returns-in-Some-clause-handles g c = λ some.
     let group : c.in-Some.group.now ≡ boundary_at c.args.self.now.live.items c.args.s = search rules in
-    handles_through g.R.Rack g.R.Disks.handles c.args.s c.args.j c.args.self.now _ (record { live = refl; absent = refl; calls = refl; writes = refl })
-    (subst (λ (t : ℕ). g.R.Disks.handles c.args.self.now.rack t c.args.j c.mend.new.self) group (c.mend.ensures.handles some))
+    record {
+      in_use = search rules;
+      below = subst (λ (t : ℕ). g.R.Rack.handles c.args.self.now.rack t c.args.j c.mend.new.self) group (c.mend.ensures.handles some);
+      through = record { live = refl; absent = refl; calls = refl; writes = refl };
+    }
 
 pub returns-in-None-clause-handles : goal.returns-in-None-clause-handles
 returns-in-None-clause-handles g c = λ some.

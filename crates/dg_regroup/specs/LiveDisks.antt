@@ -3,7 +3,7 @@ use Rattle.std.proofs.Common.{◌≡◌, ◌≢◌, ◌≤◌, ◌<◌, ◌*◌,
 use Rattle.std.specs.List.Sorted.{IsStrictlyIncreasing}
 use Rattle.std.proofs.lemmas.Bool.{false≢true}
 use Rattle.std.proofs.lemmas.Bool.Decides.{nat_tests}
-use Rattle.dg_io.specs.DiskAnswers.{IsServed, LeavesMembers, MendsDisk, OneDisk, is_group_lost}
+use Rattle.dg_io.specs.DiskAnswers.{HandlesAs, IsServed, LeavesMembers, MendsDisk, OneDisk, is_group_lost}
 use Rattle.dg_io.specs.Disks.{DiskStates}
 use Rattle.dg_io.specs.declared.disks.MendAnswer.{MendAnswer}
 use Rattle.dg_io.specs.declared.disks.MendAnswer.TheVariants.{Lost, NotOut}
@@ -11,11 +11,10 @@ use Rattle.dg_io.specs.declared.outside.Rack.{Ghosts}
 use Rattle.dg_io.specs.Told.{IsSame, Told}
 use Rattle.dg_model.specs.Causes.{Rose}
 use Rattle.dg_model.specs.Lives.{boundary_at, member_at}
-use Rattle.dg_regroup.proofs.LiveCalls.{IsThrough}
 use Rattle.dg_regroup.specs.LiveGhosts.{live as live_words}
 use Rattle.dg_regroup.specs.LiveLaws.{keeps_through, out_at}
 use Rattle.dg_regroup.specs.LivePlaces.{by_there, few_pass, first_groups, first_member, live_differs}
-use Rattle.dg_regroup.specs.LiveRacks.{LiveHandles, disks_at, is_there, live_groups}
+use Rattle.dg_regroup.specs.LiveRacks.{IsThrough, LiveHandles, disks_at, is_there, live_groups}
 use Rattle.dg_regroup.specs.declared.live_racks.LiveRack.{LiveRack}
 
 -- ---- groups
@@ -93,7 +92,7 @@ other_member live s q rise within here differ same =
     let low : q / 2 < length live = grind (arith, nat_tests) in
     live_differs live (q / 2) s rise low within (λ level. differ (omega (arith, level, same))) (omega (arith, same))
 
-pub members_through : {R : Type 0} (rack : Ghosts R) (s : ℕ) (it new : LiveRack R) → IsThrough rack it new → s < length it.live.items
+pub members_through : {R : Type 0} (rack : Ghosts R) (s : ℕ) (it new : LiveRack R) → IsThrough it new → s < length it.live.items
     → LeavesMembers rack (boundary_at it.live.items s) it.rack new.rack → LeavesMembers (live_words rack) s it new
 members_through rack s it new same within leaves = let live = it.live.items in record {
   same_rack = rw (same.live, leaves.same_rack) refl;
@@ -110,7 +109,10 @@ members_through rack s it new same within leaves = let live = it.live.items in r
   keeps_on = keeps_through rack it new same.live leaves.keeps_on;
 }
 
--- what the call may leave of it
-pub handles_through : {R : Type 0} (rack : Ghosts R) (handles : R → ℕ → ℕ → R → Type 0) (s j : ℕ) (it new : LiveRack R) → IsThrough rack it new
-    → handles it.rack (boundary_at it.live.items s) j new.rack → LiveHandles handles it s j new
-handles_through rack handles s j it new same below = record { below = below; live = same.live; absent = same.absent; calls = same.calls; writes = same.writes }
+-- what a call on a disk leaves of the members and of the disks, by places
+pub live_handled : {R : Type 0} (rack : Ghosts R) → ((a b : R) (s j : ℕ) → rack.handles a s j b → HandlesAs rack s j a b)
+    → (a b : LiveRack R) (s j : ℕ) → LiveHandles rack a s j b → HandlesAs (live_words rack) s j a b
+live_handled rack law a b s j h = let under = law a.rack b.rack (boundary_at a.live.items s) j h.below in record {
+  one = rw h.through.live (one_disk_through a.live.items s j (rack.disks a.rack) (rack.disks b.rack) a.ascend h.in_use under.one);
+  leaves = members_through rack s a b h.through h.in_use under.leaves;
+}
