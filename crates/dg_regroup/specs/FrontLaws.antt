@@ -1,6 +1,7 @@
 -- Calls of a rack of which some members show their first bytes alone leave what each of them leaves.
-use Rattle.std.proofs.Common.{◌≡◌, ◌∙◌, ◌&&◌, ℕ, Bool, true, false, not, is_some, List, [], ◌∷◌, ◌++◌, Option, None, Some, IsSome, inl, inr, length, refl, sym, ap, subst, arith}
+use Rattle.std.proofs.Common.{◌≡◌, ◌∙◌, ◌&&◌, ◌+◌, ◌*◌, ℕ, Bool, true, false, not, is_some, List, [], ◌∷◌, ◌++◌, Option, None, Some, IfSome, IsSome, inl, inr, length, refl, sym, ap, subst, arith}
 use Rattle.std.proofs.lemmas.Bool.{and_parts, false≢true}
+use Rattle.dg_io.specs.DiskAnswers.{is_group_lost}
 use Rattle.dg_io.specs.Kept.{KeepsOn}
 use Rattle.dg_io.specs.MadeLaws.{each_back, each_front, same_both, same_told}
 use Rattle.dg_io.specs.Disks.{DiskStates, DisksAfter}
@@ -11,7 +12,7 @@ use Rattle.dg_io.specs.Told.{IsSame, Told}
 use Rattle.dg_io.specs.declared.outside.Rack.{Ghosts}
 use Rattle.dg_regroup.specs.FrontGhosts.{front}
 use Rattle.dg_regroup.specs.FrontMade.{AreFor, FrontMade, IsFor}
-use Rattle.dg_regroup.specs.FrontRacks.{front_keeps, front_of, is_front, is_hidden, shown}
+use Rattle.dg_regroup.specs.FrontRacks.{front_keeps, front_of, front_stands, is_front, is_hidden, shown}
 use Rattle.dg_regroup.specs.declared.front_racks.FrontRack.{FrontRack}
 
 -- ---- what a member shows
@@ -81,6 +82,11 @@ for_disks made below old new are after = record {
 still_front : (was is : Bool) → (was ≡ false → is ≡ false) → is ≡ true → was ≡ true
 still_front true is still front = refl
 still_front false is still front = absurd (false≢true (sym (still refl) ∙ front))
+
+-- one that doesn't stand below doesn't stand
+not_shown : (hidden up : Bool) → up ≡ false → (not hidden && up) ≡ false
+not_shown true up down = refl
+not_shown false up down = down
 
 module _ {R : Type 0} (rack : Ghosts R) where
   pub front_none : ((s : R) → rack.made s [] s) → (s : FrontRack R) → FrontMade rack s [] s
@@ -171,3 +177,19 @@ module _ {R : Type 0} (rack : Ghosts R) where
         keeps_on = λ each. keeps_shown a b done.length (done.same_fronts each) (under.keeps_on (each_for IsNoBlank (λ q h. h) made done.passed done.are_for each));
         disks_after = for_disks made done.passed (rack.disks a.rack) (rack.disks b.rack) done.are_for under.disks_after;
       }
+
+  -- ---- groups of disks
+
+  -- no second member stands of a rack of groups
+  pub front_single : ((s : R) (x : ℕ) → IsSome (rack.disks s).width → rack.stands s (2 * x + 1) ≡ false)
+      → (it : FrontRack R) (x : ℕ) → IsSome (rack.disks it.rack).width → front_stands rack it (2 * x + 1) ≡ false
+  front_single law it x some = not_shown (is_hidden it (2 * x + 1)) (rack.stands it.rack (2 * x + 1)) (law it.rack x some)
+
+  -- and none of a group of which two disks are out
+  pub front_lost : ((s : R) (x : ℕ) → IfSome (rack.disks s).width (λ n. is_group_lost n (rack.disks s).out x ≡ true → rack.stands s (2 * x) ≡ false))
+      → (it : FrontRack R) (x : ℕ) → IfSome (rack.disks it.rack).width (λ n. is_group_lost n (rack.disks it.rack).out x ≡ true → front_stands rack it (2 * x) ≡ false)
+  front_lost law it x = some (rack.disks it.rack).width (law it.rack x) where
+    some : (width : Option ℕ) → IfSome width (λ n. is_group_lost n (rack.disks it.rack).out x ≡ true → rack.stands it.rack (2 * x) ≡ false)
+        → IfSome width (λ n. is_group_lost n (rack.disks it.rack).out x ≡ true → front_stands rack it (2 * x) ≡ false)
+    some None down = tt
+    some (Some n) down = λ is. not_shown (is_hidden it (2 * x)) (rack.stands it.rack (2 * x)) (down is)

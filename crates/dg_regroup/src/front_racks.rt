@@ -205,11 +205,10 @@ impl<R: Checkpoint> Checkpoint for FrontRack<R> {
 }
 
 impl<R: Disks> Disks for FrontRack<R> {
-    ghost use Rattle.dg_regroup.specs.FrontRacks.{front_groups, front_width};
+    ghost use Rattle.dg_regroup.specs.FrontLaws.{front_lost, front_single};
+    ghost use Rattle.dg_regroup.specs.FrontRacks.{FrontHandles};
 
-    ghost width = { front_width R.width };
-
-    ghost groups = { front_groups R.groups };
+    ghost handles = { FrontHandles R.handles };
 
     fn drop_disk(&mut self, s: u8, j: u8) -> DropAnswer {
         self.rack.drop_disk(s, j)
@@ -222,4 +221,8 @@ impl<R: Disks> Disks for FrontRack<R> {
     fn disks(&self) -> Option<u8> {
         self.rack.disks()
     }
+
+    ghost single = { λ it x some. front_single R.Rack R.single it x some };
+
+    ghost lost = { λ it x. front_lost R.Rack R.lost it x };
 }

@@ -259,11 +259,10 @@ impl<R: Checkpoint> Checkpoint for LiveRack<R> {
 }
 
 impl<R: Disks> Disks for LiveRack<R> {
-    ghost use Rattle.dg_regroup.specs.LiveRacks.{live_groups, live_width};
+    ghost use Rattle.dg_regroup.specs.LiveLaws.{live_lost, live_single};
+    ghost use Rattle.dg_regroup.specs.LiveRacks.{LiveHandles};
 
-    ghost width = { live_width R.width };
-
-    ghost groups = { live_groups R.groups };
+    ghost handles = { LiveHandles R.handles };
 
     fn drop_disk(&mut self, s: u8, j: u8) -> DropAnswer {
         match self.live.get(s as usize) {
@@ -282,4 +281,8 @@ impl<R: Disks> Disks for LiveRack<R> {
     fn disks(&self) -> Option<u8> {
         self.rack.disks()
     }
+
+    ghost single = { λ it x some. live_single R.Rack R.single it x some };
+
+    ghost lost = { λ it x. live_lost R.Rack R.lost it x };
 }
