@@ -35,6 +35,7 @@ impl<R: Disks> Store<R> {
         ensures idle { (R.disks (rack_of self.old)).width ≡ None → self.new ≡ self.old }
         ensures answer { IfSome (R.disks (rack_of self.old)).width
             (λ n. DropsDisk n s j (R.disks (rack_of self.old)) (R.disks (rack_of self.new)) result) }
+        ensures already { result ≡ DropAnswer.Already → self.new ≡ self.old }
         ensures leaves { DiskLeaves R.Rack s j (drop_loses result) self.old self.new }
         ensures handles { IsSome (R.disks (rack_of self.old)).width → R.handles (rack_of self.old) s j (rack_of self.new) }
     {
@@ -52,6 +53,7 @@ impl<R: Disks> Store<R> {
         ensures idle { (R.disks (rack_of self.old)).width ≡ None → self.new ≡ self.old }
         ensures answer { IfSome (R.disks (rack_of self.old)).width
             (λ n. MendsDisk n s j (R.disks (rack_of self.old)) (R.disks (rack_of self.new)) result) }
+        ensures not_out { result ≡ MendAnswer.NotOut → self.new ≡ self.old }
         ensures leaves { DiskLeaves R.Rack s j (mend_loses result) self.old self.new }
         ensures handles { IsSome (R.disks (rack_of self.old)).width → R.handles (rack_of self.old) s j (rack_of self.new) }
     {

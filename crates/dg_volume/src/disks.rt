@@ -70,6 +70,7 @@ impl<S: InPhase, R: Disks> Volume<S, R> {
         ensures leaves { LeavesDisks R.Rack boundary disk self.old self.new }
         ensures plain { (result ≡ DropDiskAnswer.Plain) ↔ ((R.disks (rack_of self.old)).width ≡ None) }
         ensures answer { IfSome (R.disks (rack_of self.old)).width (λ n. AnswersDrop R.Rack n boundary disk self.old self.new result) }
+        ensures already { result ≡ DropDiskAnswer.Already → self.new ≡ self.old }
         ensures given { given_of self.new ≡ given_of self.old }
         ensures handles { (self.new ≡ self.old) ⊎ R.handles (rack_of self.old) (place_of self.old boundary) disk (rack_of self.new) }
     {
@@ -99,6 +100,7 @@ impl<S: InPhase, R: Disks> Volume<S, R> {
         ensures leaves { LeavesDisks R.Rack boundary disk self.old self.new }
         ensures plain { (result ≡ MendDiskAnswer.Plain) ↔ ((R.disks (rack_of self.old)).width ≡ None) }
         ensures answer { IfSome (R.disks (rack_of self.old)).width (λ n. AnswersMend R.Rack n boundary disk self.old self.new result) }
+        ensures not_out { result ≡ MendDiskAnswer.NotOut → self.new ≡ self.old }
         ensures given { given_of self.new ≡ given_of self.old }
         ensures handles { (self.new ≡ self.old) ⊎ R.handles (rack_of self.old) (place_of self.old boundary) disk (rack_of self.new) }
     {

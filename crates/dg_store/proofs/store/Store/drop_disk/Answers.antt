@@ -32,4 +32,9 @@ returns-clause-leaves g c =
 
 pub returns-clause-handles : goal.returns-clause-handles
 returns-clause-handles g c some =
-    subst (λ r. g.R.Disks.handles (rack_of c.args.self.now) c.args.s c.args.j r) (sym c.fail_where.ensures.rack) (c.drop_disk-answer.ensures.handles some)
+    subst (λ r. g.R.Rack.handles (rack_of c.args.self.now) c.args.s c.args.j r) (sym c.fail_where.ensures.rack) (c.drop_disk-answer.ensures.handles some)
+
+pub returns-clause-already : goal.returns-clause-already
+returns-clause-already g c is =
+    let e = c.drop_disk-answer.ensures in
+    c.fail_where.ensures.idle (c.is_lost_by_drop.ensures ∙ ap drop_loses is) ∙ ap (λ r. record c.args.self.now { rack = r }) (e.already is)

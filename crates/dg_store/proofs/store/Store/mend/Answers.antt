@@ -32,4 +32,9 @@ returns-clause-leaves g c =
 
 pub returns-clause-handles : goal.returns-clause-handles
 returns-clause-handles g c some =
-    subst (λ r. g.R.Disks.handles (rack_of c.args.self.now) c.args.s c.args.j r) (sym c.fail_where.ensures.rack) (c.mend-answer.ensures.handles some)
+    subst (λ r. g.R.Rack.handles (rack_of c.args.self.now) c.args.s c.args.j r) (sym c.fail_where.ensures.rack) (c.mend-answer.ensures.handles some)
+
+pub returns-clause-not_out : goal.returns-clause-not_out
+returns-clause-not_out g c is =
+    let e = c.mend-answer.ensures in
+    c.fail_where.ensures.idle (c.is_lost_by_mend.ensures ∙ ap mend_loses is) ∙ ap (λ r. record c.args.self.now { rack = r }) (e.not_out is)
