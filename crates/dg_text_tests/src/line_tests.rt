@@ -185,7 +185,11 @@ fn other_first_lines_are_refused(rt: HostRuntime) -> Result<(), Fail> {
 #[test]
 fn other_first_lines_of_groups_are_refused(rt: HostRuntime) -> Result<(), Fail> {
     let alloc = rt.alloc();
-    for line in ["parity 1024 64 4 32 2", "parity 1024 64 4 32 2 3 ", "parity"] {
+    for line in [
+        "parity 1024 64 4 32 2",
+        "parity 1024 64 4 32 2 3 ",
+        "parity",
+    ] {
         assert_eq!(rt; fault_of(alloc, line, None)?, Some(BadLine::Form), "{line}");
     }
     let numbers = [
@@ -213,7 +217,11 @@ fn other_first_lines_of_groups_are_refused(rt: HostRuntime) -> Result<(), Fail> 
             "{line}"
         );
     }
-    for line in ["parity 1024 64 4 32 2 3", "parity 1024 64 4 32 2 9", "parity x"] {
+    for line in [
+        "parity 1024 64 4 32 2 3",
+        "parity 1024 64 4 32 2 9",
+        "parity x",
+    ] {
         assert_eq!(rt;
             fault_of(alloc, line, Some(&SHAPE))?,
             Some(BadLine::Order),
