@@ -179,22 +179,6 @@ module _ {R : Type 0} (rack : Ghosts R) where
         disks_after = for_disks made done.passed (rack.disks a.rack) (rack.disks b.rack) done.are_for under.disks_after;
       }
 
-  -- ---- groups of disks
-
-  -- no second member stands of a rack of groups
-  pub front_single : ((s : R) (x : ℕ) → IsSome (rack.disks s).width → rack.stands s (2 * x + 1) ≡ false)
-      → (it : FrontRack R) (x : ℕ) → IsSome (rack.disks it.rack).width → front_stands rack it (2 * x + 1) ≡ false
-  front_single law it x some = not_shown (is_hidden it (2 * x + 1)) (rack.stands it.rack (2 * x + 1)) (law it.rack x some)
-
-  -- and none of a group of which two disks are out
-  pub front_lost : ((s : R) (x : ℕ) → IfSome (rack.disks s).width (λ n. is_group_lost n (rack.disks s).out x ≡ true → rack.stands s (2 * x) ≡ false))
-      → (it : FrontRack R) (x : ℕ) → IfSome (rack.disks it.rack).width (λ n. is_group_lost n (rack.disks it.rack).out x ≡ true → front_stands rack it (2 * x) ≡ false)
-  front_lost law it x = some (rack.disks it.rack).width (law it.rack x) where
-    some : (width : Option ℕ) → IfSome width (λ n. is_group_lost n (rack.disks it.rack).out x ≡ true → rack.stands it.rack (2 * x) ≡ false)
-        → IfSome width (λ n. is_group_lost n (rack.disks it.rack).out x ≡ true → front_stands rack it (2 * x) ≡ false)
-    some None down = tt
-    some (Some n) down = λ is. not_shown (is_hidden it (2 * x)) (rack.stands it.rack (2 * x)) (down is)
-
   -- what a call on a disk leaves
   pub front_handled : ((a b : R) (s j : ℕ) → rack.handles a s j b → HandlesAs rack s j a b)
       → (a b : FrontRack R) (s j : ℕ) → FrontHandles rack a s j b → HandlesAs (front rack) s j a b
@@ -214,3 +198,24 @@ module _ {R : Type 0} (rack : Ghosts R) where
     where
       shows : (q : ℕ) → is_front b q ≡ is_front a q
       shows q = ap (λ fronts. slice_index_or fronts q false) h.fronts
+
+-- ---- groups of disks
+
+-- what stands of it, by what stands below
+abbrev pub stands_shown : {R : Type 0} → (R → ℕ → Bool) → FrontRack R → ℕ → Bool
+stands_shown stands it q = not (is_hidden it q) && stands it.rack q
+
+module _ {R : Type 0} (disks : R → DiskStates) (stands : R → ℕ → Bool) where
+  -- no second member stands of a rack of groups
+  pub front_single : ((s : R) (x : ℕ) → IsSome (disks s).width → stands s (2 * x + 1) ≡ false)
+      → (it : FrontRack R) (x : ℕ) → IsSome (disks it.rack).width → stands_shown stands it (2 * x + 1) ≡ false
+  front_single law it x some = not_shown (is_hidden it (2 * x + 1)) (stands it.rack (2 * x + 1)) (law it.rack x some)
+
+  -- and none of a group of which two disks are out
+  pub front_lost : ((s : R) (x : ℕ) → IfSome (disks s).width (λ n. is_group_lost n (disks s).out x ≡ true → stands s (2 * x) ≡ false))
+      → (it : FrontRack R) (x : ℕ) → IfSome (disks it.rack).width (λ n. is_group_lost n (disks it.rack).out x ≡ true → stands_shown stands it (2 * x) ≡ false)
+  front_lost law it x = some (disks it.rack).width (law it.rack x) where
+    some : (width : Option ℕ) → IfSome width (λ n. is_group_lost n (disks it.rack).out x ≡ true → stands it.rack (2 * x) ≡ false)
+        → IfSome width (λ n. is_group_lost n (disks it.rack).out x ≡ true → stands_shown stands it (2 * x) ≡ false)
+    some None down = tt
+    some (Some n) down = λ is. not_shown (is_hidden it (2 * x)) (stands it.rack (2 * x)) (down is)

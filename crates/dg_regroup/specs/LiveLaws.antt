@@ -144,26 +144,6 @@ module _ {R : Type 0} (rack : Ghosts R) where
     stay true o n h was = h refl was
     stay false o n h was = was
 
-  -- no second member stands of a rack of groups
-  pub live_single : ((s : R) (x : ℕ) → IsSome (rack.disks s).width → rack.stands s (2 * x + 1) ≡ false)
-      → (it : LiveRack R) (x : ℕ) → IsSome (rack.disks it.rack).width → live_stands rack it (2 * x + 1) ≡ false
-  live_single law it x some =
-      let down = subst (λ (q : ℕ). rack.stands it.rack q ≡ false) (sym (second_member it.live.items x)) (law it.rack (boundary_at it.live.items x) some) in
-      not_there (is_there it.live.items (2 * x + 1)) (rack.stands it.rack (member_at it.live.items (2 * x + 1))) (λ here. down)
-
-  -- and none of a group of which two disks are out
-  pub live_lost : ((s : R) (x : ℕ) → IfSome (rack.disks s).width (λ n. is_group_lost n (rack.disks s).out x ≡ true → rack.stands s (2 * x) ≡ false))
-      → (it : LiveRack R) (x : ℕ) → IfSome (rack.disks it.rack).width (λ n. is_group_lost n (live_disks rack it).out x ≡ true → live_stands rack it (2 * x) ≡ false)
-  live_lost law it x = some (rack.disks it.rack).width (law it.rack (boundary_at it.live.items x)) where
-    some : (width : Option ℕ) → IfSome width (λ n. is_group_lost n (rack.disks it.rack).out (boundary_at it.live.items x) ≡ true → rack.stands it.rack (2 * boundary_at it.live.items x) ≡ false)
-        → IfSome width (λ n. is_group_lost n (live_disks rack it).out x ≡ true → live_stands rack it (2 * x) ≡ false)
-    some None down = tt
-    some (Some n) down = λ is. not_there (is_there it.live.items (2 * x)) (rack.stands it.rack (member_at it.live.items (2 * x))) (λ here.
-        let half : 2 * x / 2 ≡ x = omega arith in
-        let within : nat_lt x (length it.live.items) ≡ true = rw half at here in
-        let group = subst (λ (p : ℕ → Bool). is_group_lost n (λ t. p) x ≡ true) (out_at it.live.items x (rack.disks it.rack) within) is in
-        subst (λ (q : ℕ). rack.stands it.rack q ≡ false) (sym (first_member it.live.items x)) (down group))
-
   -- ---- the law
 
   pub keeps_through : (a b : LiveRack R) → b.live ≡ a.live → KeepsOn rack.keeps a.rack b.rack → KeepsOn (live_keeps rack) a b
@@ -190,3 +170,30 @@ module _ {R : Type 0} (rack : Ghosts R) where
         keeps_on = λ each. keeps_through a b done.live (under.keeps_on (no_blank live made each));
         disks_after = disks_through a b made done.live under.disks_after;
       }
+
+-- ---- groups of disks
+
+-- what stands of it, by what stands below
+abbrev pub stands_at : {R : Type 0} → (R → ℕ → Bool) → LiveRack R → ℕ → Bool
+stands_at stands it q = if is_there it.live.items q then stands it.rack (member_at it.live.items q) else false
+
+module _ {R : Type 0} (disks : R → DiskStates) (stands : R → ℕ → Bool) where
+  -- no second member stands of a rack of groups
+  pub live_single : ((s : R) (x : ℕ) → IsSome (disks s).width → stands s (2 * x + 1) ≡ false)
+      → (it : LiveRack R) (x : ℕ) → IsSome (disks it.rack).width → stands_at stands it (2 * x + 1) ≡ false
+  live_single law it x some =
+      let down = subst (λ (q : ℕ). stands it.rack q ≡ false) (sym (second_member it.live.items x)) (law it.rack (boundary_at it.live.items x) some) in
+      not_there (is_there it.live.items (2 * x + 1)) (stands it.rack (member_at it.live.items (2 * x + 1))) (λ here. down)
+
+  -- and none of a group of which two disks are out
+  pub live_lost : ((s : R) (x : ℕ) → IfSome (disks s).width (λ n. is_group_lost n (disks s).out x ≡ true → stands s (2 * x) ≡ false))
+      → (it : LiveRack R) (x : ℕ) → IfSome (disks it.rack).width (λ n. is_group_lost n (disks_at it.live.items (disks it.rack)).out x ≡ true → stands_at stands it (2 * x) ≡ false)
+  live_lost law it x = some (disks it.rack).width (law it.rack (boundary_at it.live.items x)) where
+    some : (width : Option ℕ) → IfSome width (λ n. is_group_lost n (disks it.rack).out (boundary_at it.live.items x) ≡ true → stands it.rack (2 * boundary_at it.live.items x) ≡ false)
+        → IfSome width (λ n. is_group_lost n (disks_at it.live.items (disks it.rack)).out x ≡ true → stands_at stands it (2 * x) ≡ false)
+    some None down = tt
+    some (Some n) down = λ is. not_there (is_there it.live.items (2 * x)) (stands it.rack (member_at it.live.items (2 * x))) (λ here.
+        let half : 2 * x / 2 ≡ x = omega arith in
+        let within : nat_lt x (length it.live.items) ≡ true = rw half at here in
+        let group = subst (λ (p : ℕ → Bool). is_group_lost n (λ t. p) x ≡ true) (out_at it.live.items x (disks it.rack) within) is in
+        subst (λ (q : ℕ). stands it.rack q ≡ false) (sym (first_member it.live.items x)) (down group))

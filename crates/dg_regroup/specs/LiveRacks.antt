@@ -1,5 +1,5 @@
 -- A rack of the boundaries in use. The rules are this project's own.
-use Rattle.std.specs.Prelude.{◌≡◌, ◌+◌, ◌*◌, ◌/◌, nat_lt, ℕ, Bool, true, false, List, [], ◌∷◌, Option, Some, None, if◌then◌else◌, filter, length, map, slice_index}
+use Rattle.std.specs.Prelude.{◌≡◌, ◌<◌, ◌+◌, ◌*◌, ◌/◌, nat_lt, ℕ, Bool, true, false, List, [], ◌∷◌, Option, Some, None, if◌then◌else◌, filter, length, map, slice_index}
 use Rattle.dg_io.specs.Disks.{DiskStates}
 use Rattle.dg_io.specs.Kept.{Kept, IsNothing}
 use Rattle.dg_io.specs.Reduced.{places_left}

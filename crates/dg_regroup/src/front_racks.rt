@@ -221,9 +221,9 @@ impl<R: Disks> Disks for FrontRack<R> {
         self.rack.disks()
     }
 
-    ghost handled = { λ a b s j h. front_handled R.Rack R.handled a b s j h };
+    ghost handled = { λ a b s j h. front_handled _ R.handled a b s j h };
 
-    ghost single = { λ it x some. front_single R.Rack R.single it x some };
+    ghost single = { λ it x some. front_single R.disks R.stands R.single it x some };
 
-    ghost lost = { λ it x. front_lost R.Rack R.lost it x };
+    ghost lost = { λ it x. front_lost R.disks R.stands R.lost it x };
 }

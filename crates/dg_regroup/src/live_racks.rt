@@ -282,9 +282,9 @@ impl<R: Disks> Disks for LiveRack<R> {
         self.rack.disks()
     }
 
-    ghost handled = { λ a b s j h. live_handled R.Rack R.handled a b s j h };
+    ghost handled = { λ a b s j h. live_handled _ R.handled a b s j h };
 
-    ghost single = { λ it x some. live_single R.Rack R.single it x some };
+    ghost single = { λ it x some. live_single R.disks R.stands R.single it x some };
 
-    ghost lost = { λ it x. live_lost R.Rack R.lost it x };
+    ghost lost = { λ it x. live_lost R.disks R.stands R.lost it x };
 }

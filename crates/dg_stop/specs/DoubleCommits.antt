@@ -130,6 +130,7 @@ double_rack rack = record {
   keeps = double_keeps rack;
   disks = double_disks rack;
   made = DoubleMade rack;
+  handles = λ old s j new. ⊥;
 }
 
 -- what a commit may leave of it, beside what it means as a rack

@@ -197,6 +197,7 @@ double_words rack = record {
   keeps = double_keeps rack;
   disks = double_disks rack;
   made = λ old made new. Unit {0};
+  handles = λ old s j new. ⊥;
 }
 
 -- a call that neither looks for member q, nor makes it anew, nor extends it

@@ -2,7 +2,7 @@
 use Rattle.std.specs.Prelude.{◌≡◌, ◌++◌, ◌+◌, ◌*◌, ℕ, Bool, true, false, List, [], Option, Result, IfSome, IsSome}
 use Rattle.std.proofs.Common.{◌⊎◌, inl, inr, refl, arith}
 use Rattle.std.proofs.lemmas.Bool.{false≢true}
-use Rattle.dg_io.specs.DiskAnswers.{LeavesMembers, OneDisk, is_group_lost}
+use Rattle.dg_io.specs.DiskAnswers.{HandlesAs, LeavesMembers, OneDisk, is_group_lost}
 use Rattle.dg_io.specs.Disks.{DiskStates}
 use Rattle.dg_io.specs.Kept.{HasAnother, IsNothing, Kept, KeepsRest}
 use Rattle.dg_io.specs.MadeLaws.{disks_same, same_told}
@@ -11,7 +11,7 @@ use Rattle.dg_io.specs.RackWords.{After, Leaves}
 use Rattle.dg_io.specs.declared.outside.Rack.{Ghosts}
 use Rattle.dg_stop.specs.DoubleLaws.{double_both, double_none, double_tells_told, double_told}
 use Rattle.dg_stop.specs.Doubles.{Double, DoubleMade, double_keeps, double_stands, double_words}
-use Rattle.dg_stop.specs.StopRacks.{StopMade, bytes_by, disks_by, made_by, stands_by, stop_bytes, stop_keeps, stop_stands, stop_words, tells_by}
+use Rattle.dg_stop.specs.StopRacks.{StopHandles, StopMade, bytes_by, disks_by, handles_by, made_by, stands_by, stop_bytes, stop_keeps, stop_stands, stop_words, tells_by}
 use Rattle.dg_stop.specs.declared.stop_racks.StopRack.{StopRack}
 use Rattle.dg_stop.specs.declared.stop_racks.StopRack.TheVariants.{Plain, Doubled}
 
@@ -155,6 +155,14 @@ module _ {R : Type 0} (rack : Ghosts R) where
     told_before = leaves.told_before;
     keeps_on = λ kept h. h;
   }
+
+  handled_as : ((a b : R) (s j : ℕ) → rack.handles a s j b → HandlesAs rack s j a b) → (a b : StopRack R) (s j : ℕ) → handles_by rack a s j b → HandlesAs (stop_words rack) s j a b
+  handled_as law (Plain a) (Plain b) s j h = let is = law a b s j h in record { one = is.one; leaves = plain_members s a b is.leaves }
+  handled_as law (Plain a) (Doubled b) s j h = absurd h
+  handled_as law (Doubled a) b s j h = absurd h
+
+  pub stop_handled : ((a b : R) (s j : ℕ) → rack.handles a s j b → HandlesAs rack s j a b) → (a b : StopRack R) (s j : ℕ) → StopHandles rack a s j b → HandlesAs (stop_words rack) s j a b
+  stop_handled law a b s j h = handled_as law a b s j h.by
 
   -- a double one is as it was
   pub doubled_members : (s : ℕ) (it : Double R) → LeavesMembers (stop_words rack) s (Doubled it) (Doubled it)

@@ -96,10 +96,13 @@ pub record StopCommits {R : Type 0} (rack : Ghosts R) (old new : StopRack R) : T
   pub by : commits_by rack old new
 
 -- what a call on a disk may leave of it: a plain one has what the rack behind has, and a double one has no disks
-abbrev pub stop_handles : {R : Type 0} → (R → ℕ → ℕ → R → Type 0) → StopRack R → ℕ → ℕ → StopRack R → Type 0
-stop_handles handles (Plain old) s j (Plain new) = handles old s j new
-stop_handles handles (Plain old) s j (Doubled new) = ⊥
-stop_handles handles (Doubled old) s j new = ⊥
+abbrev pub handles_by : {R : Type 0} → Ghosts R → StopRack R → ℕ → ℕ → StopRack R → Type 0
+handles_by rack (Plain old) s j (Plain new) = rack.handles old s j new
+handles_by rack (Plain old) s j (Doubled new) = ⊥
+handles_by rack (Doubled old) s j new = ⊥
+
+pub record StopHandles {R : Type 0} (rack : Ghosts R) (old : StopRack R) (s j : ℕ) (new : StopRack R) : Type 0 where
+  pub by : handles_by rack old s j new
 
 abbrev pub stop_words : {R : Type 0} → Ghosts R → Ghosts (StopRack R)
 stop_words rack = record {
@@ -112,6 +115,7 @@ stop_words rack = record {
   keeps = stop_keeps rack;
   disks = stop_disks rack;
   made = StopMade rack;
+  handles = StopHandles rack;
 }
 
 -- it is double over this rack, and no member was ever there
