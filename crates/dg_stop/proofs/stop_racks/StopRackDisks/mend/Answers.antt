@@ -1,9 +1,9 @@
 use Rattle.std.proofs.Common.{◌≡◌, ◌<◌, ◌↔◌, None, IfSome, IsSome, refl, sym, ap, subst}
 use Rattle.std.proofs.lemmas.Bool.{false≢true}
 use Rattle.dg_io.specs.DiskAnswers.{MendsDisk, LeavesMembers, OneDisk}
-use Rattle.dg_io.specs.declared.disks.MendAnswer.TheVariants.{Plain as answers_plain}
+use Rattle.dg_io.specs.declared.disks.MendAnswer.TheVariants.{NotOut, Plain as answers_plain}
 use Rattle.dg_stop.specs.StopLaws.{doubled_members, no_disk_called, plain_members}
-use Rattle.dg_stop.specs.StopRacks.{stop_disks, stop_handles, stop_words}
+use Rattle.dg_stop.specs.StopRacks.{StopHandles, stop_disks, stop_words}
 use Rattle.dg_stop.specs.declared.stop_racks.StopRack.{StopRack}
 use Rattle.dg_stop.specs.declared.stop_racks.StopRack.TheVariants.{Plain, Doubled}
 use Rattle.dg_stop.proofs.stop_racks.StopRackDisks.mend.Goals as goal
@@ -32,7 +32,8 @@ returns-in-Plain-clause-leaves g c =
 
 pub returns-in-Plain-clause-handles : goal.returns-in-Plain-clause-handles
 returns-in-Plain-clause-handles g c =
-    subst (λ (s : StopRack g.row.R.Denot). IsSome (stop_disks g.R.Rack s).width → stop_handles g.R.Disks.handles s c.args.s c.args.j (Plain c.mend.new.self)) (sym c.in-Plain.is) c.mend.ensures.handles
+    subst (λ (s : StopRack g.row.R.Denot). IsSome (stop_disks g.R.Rack s).width → StopHandles g.R.Rack s c.args.s c.args.j (Plain c.mend.new.self)) (sym c.in-Plain.is)
+    (λ some. record { by = c.mend.ensures.handles some })
 
 pub returns-in-Doubled-clause-plain : goal.returns-in-Doubled-clause-plain
 returns-in-Doubled-clause-plain g c = (λ is. subst (λ (s : StopRack g.row.R.Denot). (stop_disks g.R.Rack s).width ≡ None) (sym c.in-Doubled.is) refl, λ is. refl)
@@ -54,4 +55,10 @@ returns-in-Doubled-clause-leaves g c =
 
 pub returns-in-Doubled-clause-handles : goal.returns-in-Doubled-clause-handles
 returns-in-Doubled-clause-handles g c =
-    subst (λ (s : StopRack g.row.R.Denot). IsSome (stop_disks g.R.Rack s).width → stop_handles g.R.Disks.handles s c.args.s c.args.j (Doubled c.in-Doubled._double)) (sym c.in-Doubled.is) (λ some. absurd (false≢true some))
+    subst (λ (s : StopRack g.row.R.Denot). IsSome (stop_disks g.R.Rack s).width → StopHandles g.R.Rack s c.args.s c.args.j (Doubled c.in-Doubled._double)) (sym c.in-Doubled.is) (λ some. absurd (false≢true some))
+
+pub returns-in-Plain-clause-not_out : goal.returns-in-Plain-clause-not_out
+returns-in-Plain-clause-not_out g c = subst (λ (s : StopRack g.row.R.Denot). c.mend.result ≡ NotOut → Plain c.mend.new.self ≡ s) (sym c.in-Plain.is) (λ is. ap Plain (c.mend.ensures.not_out is))
+
+pub returns-in-Doubled-clause-not_out : goal.returns-in-Doubled-clause-not_out
+returns-in-Doubled-clause-not_out g c = λ is. sym c.in-Doubled.is
