@@ -19,8 +19,8 @@ use Rattle.dg_parity.specs.Stripes.{member_by}
 use Rattle.dg_parity.specs.declared.groups.Group.{Group}
 use Rattle.dg_parity.specs.declared.tallies.Tally.{Tally}
 use Rattle.dg_parity.proofs.ArrayLemmas.{group-odd, group-or, group-own, lt-true}
-use Rattle.dg_parity.proofs.KeptSteps.{both-true, each-told}
 use Rattle.dg_parity.proofs.MemberLemmas.{member-length}
+use Rattle.dg_parity.specs.TellLaws.{both_true, each_told}
 
 -- one more call, which failed or not
 pub record TallySteps {T E : Type 0} (q : ℕ) (result : Result T E) (old new : Tally) : Type 0 where
@@ -213,7 +213,7 @@ module _ {S : Type 0} (rack : Ghosts S) where
 
   pub tells-bytes : (group : Group) (now : S) → group.told ≡ true → AllTold rack group now → bytes_in rack group now ≡ Some (member_by group.disks group.length (made_by rack group now))
   tells-bytes group now told all =
-      some-of (group.told && all_told rack group now) (member_by group.disks group.length (made_by rack group now)) (both-true group.told (all_told rack group now) told (each-told rack group now all))
+      some-of (group.told && all_told rack group now) (member_by group.disks group.length (made_by rack group now)) (both_true group.told (all_told rack group now) told (each_told rack group now all))
 
   -- a group without a byte
   pub bare-tells : (now : S) (groups : List Group) (s n : ℕ) (group : Group) → slice_get groups s ≡ Some group → group.number ≡ s → group.disks ≡ n → group.length ≡ 0 → group.told ≡ true → is_sure group ≡ true
@@ -260,12 +260,12 @@ module _ {S : Type 0} (rack : Ghosts S) (n : ℕ) (groups : List Group) (now : S
   new-out s j lt below =
       let found = some-at groups s lt in
       let h = new s found.0 found.1 in
-      ap (λ (o : Option Group). out_of o j) found.1 ∙ both-true (nat_lt j found.0.disks) (is_out found.0 j) (ap (nat_lt j) h.disks ∙ lt-true j n below) (h.out j below)
+      ap (λ (o : Option Group). out_of o j) found.1 ∙ both_true (nat_lt j found.0.disks) (is_out found.0 j) (ap (nat_lt j) h.disks ∙ lt-true j n below) (h.out j below)
 
   new-unmade : (s : ℕ) → s < length groups → is_unmade (slice_get groups s) ≡ true
   new-unmade s lt =
       let found = some-at groups s lt in
-      ap is_unmade found.1 ∙ both-true (is_lost found.0) found.0.told (new s found.0 found.1).lost (new s found.0 found.1).told
+      ap is_unmade found.1 ∙ both_true (is_lost found.0) found.0.told (new s found.0 found.1).lost (new s found.0 found.1).told
 
   pub new_over : (count : ℕ) (tally : Tally) → length groups ≡ count → HasNoCalls tally → IsNewOver rack now count n (record { rack = now; width = n; groups = groups; tally = tally })
   new_over count tally is none = record {

@@ -1,6 +1,8 @@
 -- Calls of a rack that is plain or of groups leave what each of them leaves.
-use Rattle.std.specs.Prelude.{◌≡◌, ◌++◌, ℕ, Bool, true, List, [], Option, Some, Result, IsSome}
+use Rattle.std.specs.Prelude.{◌≡◌, ◌+◌, ◌*◌, ◌++◌, ℕ, Bool, true, false, List, [], Option, Some, Result, IfSome, IsSome}
 use Rattle.std.proofs.Common.{◌⊎◌, ◌∙◌, ap, inl, inr, refl}
+use Rattle.std.proofs.lemmas.Bool.{false≢true}
+use Rattle.dg_io.specs.DiskAnswers.{is_group_lost}
 use Rattle.dg_io.specs.Disks.{no_disks}
 use Rattle.dg_io.specs.Kept.{HasAnother, IsNothing, Kept, KeepsRest}
 use Rattle.dg_io.specs.MadeLaws.{disks_same}
@@ -11,7 +13,9 @@ use Rattle.dg_io.specs.RackWords.{After, Leaves}
 use Rattle.dg_io.specs.declared.outside.Rack.{Ghosts}
 use Rattle.dg_parity.specs.ArrayLaws.{grouped_both, grouped_none}
 use Rattle.dg_parity.specs.Arrays.{Grouped, GroupedMade, grouped_words}
-use Rattle.dg_parity.specs.ParityRacks.{IsShaped, ParityMade, either, groups_in, made_by, parity_keeps, parity_stands, parity_words, width_in}
+use Rattle.dg_parity.specs.DiskLaws.{grouped_lost, grouped_single}
+use Rattle.dg_parity.specs.ParityRacks.{IsShaped, ParityMade, groups_in, made_by, parity_bytes, parity_disks, parity_keeps, parity_stands, parity_tells, parity_words, width_in}
+use Rattle.dg_parity.specs.TellLaws.{grouped_tells_told, grouped_told}
 use Rattle.dg_parity.specs.declared.parity_racks.ParityRack.{ParityRack}
 use Rattle.dg_parity.specs.declared.parity_racks.ParityRack.TheVariants.{Plain, OfGroups}
 
@@ -118,15 +122,23 @@ module _ {R : Type 0} (rack : Ghosts R) where
   pub grouped_rest : (q : ℕ) (a b : Grouped R) → KeepsRest (parity_keeps rack) (parity_stands rack) q (OfGroups a) (OfGroups b)
   grouped_rest q a b = record { rest = λ kept keeps case. absurd keeps; any = λ kept keeps. absurd keeps }
 
-pub parity_tells_told : {R : Type 0} (bytes : R → ℕ → Option (List ℕ)) (tells : R → ℕ → Type 0) → ((s : R) (q : ℕ) → IsSome (bytes s q) → tells s q) → (grouped : Grouped R → ℕ → Option (List ℕ))
-    → (s : ParityRack R) (q : ℕ) → IsSome (either bytes grouped s q) → either tells (λ it r. IsSome (grouped it r)) s q
-parity_tells_told bytes tells law grouped (Plain s) q told = law s q told
-parity_tells_told bytes tells law grouped (OfGroups s) q told = told
+module _ {R : Type 0} (rack : Ghosts R) where
+  pub parity_tells_told : ((s : R) (q : ℕ) → IsSome (rack.bytes s q) → rack.tells s q) → (s : ParityRack R) (q : ℕ) → IsSome (parity_bytes rack s q) → parity_tells rack s q
+  parity_tells_told law (Plain s) q told = law s q told
+  parity_tells_told law (OfGroups s) q told = grouped_tells_told rack s q told
 
-pub parity_told : {R : Type 0} (bytes : R → ℕ → Option (List ℕ)) (stands : R → ℕ → Bool) (tells : R → ℕ → Type 0) → ((s : R) (q : ℕ) → tells s q → stands s q ≡ true → IsSome (bytes s q))
-    → (grouped : Grouped R → ℕ → Option (List ℕ)) → (s : ParityRack R) (q : ℕ) → either tells (λ it r. IsSome (grouped it r)) s q → either stands (λ it r. true) s q ≡ true → IsSome (either bytes grouped s q)
-parity_told bytes stands tells law grouped (Plain s) q told stand = law s q told stand
-parity_told bytes stands tells law grouped (OfGroups s) q told stand = told
+  pub parity_told : ((s : R) (q : ℕ) → rack.tells s q → rack.stands s q ≡ true → IsSome (rack.bytes s q)) → (s : ParityRack R) (q : ℕ) → parity_tells rack s q → parity_stands rack s q ≡ true
+      → IsSome (parity_bytes rack s q)
+  parity_told law (Plain s) q tell stand = law s q tell stand
+  parity_told law (OfGroups s) q tell stand = grouped_told rack s q tell stand
+
+  pub parity_single : (s : ParityRack R) (x : ℕ) → IsSome (parity_disks rack s).width → parity_stands rack s (2 * x + 1) ≡ false
+  parity_single (Plain s) x some = absurd (false≢true some)
+  parity_single (OfGroups s) x some = grouped_single rack s x
+
+  pub parity_lost : (s : ParityRack R) (x : ℕ) → IfSome (parity_disks rack s).width (λ n. is_group_lost n (parity_disks rack s).out x ≡ true → parity_stands rack s (2 * x) ≡ false)
+  parity_lost (Plain s) x = tt
+  parity_lost (OfGroups s) x = grouped_lost rack s x
 
 -- ---- how many groups it has, and of how many disks, is for good
 
