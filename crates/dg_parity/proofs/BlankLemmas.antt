@@ -1,6 +1,6 @@
 -- A group that is made anew, disk by disk.
 use Rattle.std.proofs.Common.{◌≡◌, ◌≢◌, ℕ, zero, suc, ◌+◌, ◌<◌, ◌≤◌, inl, inr, true, false, List, length, get_or, refl, sym, ap, subst, ◌∙◌, arith}
-use Rattle.std.specs.Prelude.{Option, None, Some, IsSome, IfSome, Ok, Err, slice_index, replicate, bit_xor, ◌&&◌}
+use Rattle.std.specs.Prelude.{Option, None, Some, IsSome, IfSome, Ok, Err, slice_index, not, replicate, bit_xor, ◌&&◌}
 use Rattle.std.proofs.lemmas.Bool.{cases_eq, cases_Bool, false≢true, and_parts}
 use Rattle.std.proofs.lemmas.List.{ext_get_or, length-replicate}
 use Rattle.dg_model.specs.Causes.{Rose}

@@ -63,6 +63,9 @@ module _ {S : Type 0} (rack : Ghosts S) (s j : ℕ) (old new : List Group) (a b 
     below t i e out = subst (λ (k : ℕ). i < k) turns.disks
         (lt-of i b.disks (and_parts (nat_lt i b.disks) (is_out b i) (subst (λ (o : Option Group). out_of o i ≡ true) (ap (slice_get new) e ∙ sets.is) out)).0)
 
+  lost-at : (n : ℕ) → is_group_lost a.disks (states_in rack n new now).out s ≡ is_lost b
+  lost-at n = ap (λ (o : Option Group). nat_le 2 (count_upto (out_of o) a.disks)) sets.is ∙ ap (λ (n : ℕ). nat_le 2 (count_upto (out_of (Some b)) n)) (sym turns.disks) ∙ sym (lost_is b)
+
   pub steps-on : FallBut rack j a b before now → Told IsSame (bytes_in rack a before) (bytes_in rack b now) → (is_lost a ≡ true → is_lost b ≡ true) → StepsOn rack s j old new before now
   steps-on fall told lost-on = record {
     kept = record { each = new-each called };
@@ -91,9 +94,6 @@ module _ {S : Type 0} (rack : Ghosts S) (s j : ℕ) (old new : List Group) (a b 
 
   out-is : j < a.disks → out_of (slice_get new s) j ≡ is_out b j
   out-is lt = ap (λ (o : Option Group). out_of o j) sets.is ∙ ap (λ (k : Bool). k && is_out b j) (ap (nat_lt j) turns.disks ∙ lt-true j a.disks lt)
-
-  lost-at : (n : ℕ) → is_group_lost a.disks (states_in rack n new now).out s ≡ is_lost b
-  lost-at n = ap (λ (o : Option Group). nat_le 2 (count_upto (out_of o) a.disks)) sets.is ∙ ap (λ (n : ℕ). nat_le 2 (count_upto (out_of (Some b)) n)) (sym turns.disks) ∙ sym (lost_is b)
 
   rose-at : j < a.disks → Rose ((rack.counts before).faults (disk_number a.number j)) ((rack.counts now).faults (disk_number a.number j))
       → Rose (faults_of (rack.counts before) (slice_get old s) j) (faults_of (rack.counts now) (slice_get new s) j)

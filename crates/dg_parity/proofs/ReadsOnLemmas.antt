@@ -13,7 +13,8 @@ use Rattle.dg_parity.specs.Sound.{is_sound}
 use Rattle.dg_parity.specs.Stripes.{member_by}
 use Rattle.dg_parity.specs.declared.groups.Group.{Group}
 use Rattle.dg_parity.specs.declared.parity_racks.ParityRack.TheVariants.{Plain, OfGroups}
-use Rattle.dg_parity.proofs.ArraySteps.{all-told, bare-tells, member-group, member-told, some-at, tells-bytes}
+use Rattle.dg_parity.proofs.ArraySteps.{all-told, bare-tells, member-told, some-at, tells-bytes}
+use Rattle.dg_parity.specs.DiskLaws.{member_group}
 use Rattle.dg_parity.proofs.EpochLemmas.{same-numbers, stands-again, tells-again}
 use Rattle.dg_parity.proofs.GroupLemmas.{same-then, told-at}
 use Rattle.dg_parity.proofs.JudgedLemmas.{opened-at}
@@ -131,7 +132,7 @@ module _ {R : Type 0} (rack : Ghosts R) where
     is = (some-at new.groups s few).1
 
     alive : is_lost next ≡ false
-    alive = not-lost (is_lost next) (sym (ap is_served (member-group new.groups s ∙ is)) ∙ back.served)
+    alive = not-lost (is_lost next) (sym (ap is_served (member_group new.groups s ∙ is)) ∙ back.served)
 
     ins : (j : ℕ) → is_out next j ≡ false → is_out group j ≡ false
     ins j in0 =

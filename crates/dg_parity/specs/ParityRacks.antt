@@ -71,19 +71,6 @@ parity_words rack = record {
   made = ParityMade rack;
 }
 
--- how many disks a group has, none of a plain rack
-abbrev pub width_in : {R : Type 0} → ParityRack R → Option ℕ
-width_in = either (λ it. None) (λ it. Some it.width)
-
--- how many groups it has
-abbrev pub groups_in : {R : Type 0} → ParityRack R → ℕ
-groups_in = either (λ it. 0) (λ it. length it.groups)
-
--- how many groups it has, and how many disks each of them, is for good
-pub record IsShaped {R : Type 0} (old new : ParityRack R) : Type 0 where
-  pub width : width_in new ≡ width_in old
-  pub groups : groups_in new ≡ groups_in old
-
 -- fewer than two disks of the member's group are out. Of a plain rack this says nothing
 abbrev pub IsServed : {R : Type 0} → ParityRack R → ℕ → Type 0
 IsServed = either (λ it q. Unit {0}) (λ it q. serves it.groups q ≡ true)

@@ -84,11 +84,12 @@ impl<R: Rack> Rack for ParityRack<R> {
     ghost use Rattle.std.specs.Prelude.{◌≡◌, ◌⊎◌, ◌+◌, ◌≤◌, ◌∷◌, [], true, length, None, IfOk, IfSome, IsSome, OnErr, OnOk};
     ghost use Rattle.dg_model.specs.Causes.{RoseByOne};
     ghost use Rattle.dg_io.specs.RackWords.{Leaves};
+    ghost use Rattle.dg_io.specs.Disks.{AreSameGroups};
     ghost use Rattle.dg_io.specs.Kept.{KeepsRest};
     ghost use Rattle.dg_io.specs.RackCalls.{RackCall};
     ghost use Rattle.dg_io.specs.Told.{Told, IsSame, IsZeros, Measures, IsEmpty, Reads, Patched, Torn, FitsIn, Extended, KeepsFront, IsHeader, OldOrNew};
     ghost use Rattle.dg_parity.specs.ArrayCalls.{RackGoesOn, ReadsBehind, ReadsQuietly, WritesBehind, WritesLeast, WritesQuietly, WritesWithHeaders};
-    ghost use Rattle.dg_parity.specs.ParityRacks.{IsFallen, IsNoted, IsPast, IsServed, IsShaped, IsShort, IsUnserved};
+    ghost use Rattle.dg_parity.specs.ParityRacks.{IsFallen, IsNoted, IsPast, IsServed, IsShort, IsUnserved};
     ghost use Rattle.dg_parity.specs.ParityRacks.{ParityMade, parity_bytes, parity_counts, parity_disks, parity_keeps, parity_name, parity_stands, parity_steady, parity_tells, parity_words};
     ghost use Rattle.dg_parity.specs.ParityLaws.{parity_after, parity_both, parity_none, parity_tells_told, parity_told};
 
@@ -118,7 +119,7 @@ impl<R: Rack> Rack for ParityRack<R> {
         ensures keeps { KeepsRest (parity_keeps R.Rack) (parity_stands R.Rack) member self.old self.new }
         ensures made { ParityMade R.Rack self.old (RackCall.blanks member ∷ []) self.new }
         ensures writes { RoseByOne (parity_counts R.Rack self.old).writes (parity_counts R.Rack self.new).writes }
-        ensures shape { IsShaped self.old self.new }
+        ensures shape { AreSameGroups (parity_disks R.Rack self.old) (parity_disks R.Rack self.new) }
         ensures noted { OnOk result (IsNoted self.new member) }
         ensures goes_on { RackGoesOn R.Rack self.old self.new }
         ensures alive { OnOk result (IsServed self.new member) }
@@ -139,7 +140,7 @@ impl<R: Rack> Rack for ParityRack<R> {
         ensures stands { IfOk result (λ found. IsSome found → parity_stands R.Rack self.new member ≡ true) }
         ensures made { ParityMade R.Rack self.old (RackCall.looks member ∷ []) self.new }
         ensures writes { (parity_counts R.Rack self.new).writes ≡ (parity_counts R.Rack self.old).writes }
-        ensures shape { IsShaped self.old self.new }
+        ensures shape { AreSameGroups (parity_disks R.Rack self.old) (parity_disks R.Rack self.new) }
         ensures goes_on { RackGoesOn R.Rack self.old self.new }
         ensures fails { OnErr result (IsFallen self.new member) }
     {
@@ -158,7 +159,7 @@ impl<R: Rack> Rack for ParityRack<R> {
         ensures made { ParityMade R.Rack self.old (RackCall.calls member ∷ []) self.new }
         ensures leaves { Leaves (parity_words R.Rack) member result self.old self.new }
         ensures writes { (parity_counts R.Rack self.new).writes ≡ (parity_counts R.Rack self.old).writes }
-        ensures shape { IsShaped self.old self.new }
+        ensures shape { AreSameGroups (parity_disks R.Rack self.old) (parity_disks R.Rack self.new) }
         ensures goes_on { RackGoesOn R.Rack self.old self.new }
         ensures quiet { OnOk result (ReadsQuietly R.Rack self.old self.new member place (length buf.old)) }
         ensures alive { OnOk result (IsServed self.new member) }
@@ -182,7 +183,7 @@ impl<R: Rack> Rack for ParityRack<R> {
         ensures made { ParityMade R.Rack self.old (RackCall.calls member ∷ []) self.new }
         ensures leaves { Leaves (parity_words R.Rack) member result self.old self.new }
         ensures writes { RoseByOne (parity_counts R.Rack self.old).writes (parity_counts R.Rack self.new).writes }
-        ensures shape { IsShaped self.old self.new }
+        ensures shape { AreSameGroups (parity_disks R.Rack self.old) (parity_disks R.Rack self.new) }
         ensures noted { OnOk result (IsNoted self.new member) }
         ensures goes_on { RackGoesOn R.Rack self.old self.new }
         ensures quiet { OnOk result (WritesQuietly R.Rack self.old self.new member place (length buf.now)) }
@@ -207,7 +208,7 @@ impl<R: Rack> Rack for ParityRack<R> {
         ensures made { ParityMade R.Rack self.old (RackCall.extends member ∷ []) self.new }
         ensures leaves { Leaves (parity_words R.Rack) member result self.old self.new }
         ensures writes { RoseByOne (parity_counts R.Rack self.old).writes (parity_counts R.Rack self.new).writes }
-        ensures shape { IsShaped self.old self.new }
+        ensures shape { AreSameGroups (parity_disks R.Rack self.old) (parity_disks R.Rack self.new) }
         ensures noted { OnOk result (IsNoted self.new member) }
         ensures goes_on { RackGoesOn R.Rack self.old self.new }
         ensures alive { OnOk result (IsServed self.new member) }
