@@ -442,9 +442,9 @@ module _ {S : Type 0} {rack : Ghosts S} {q : ℕ} {old new : List Group} {a b : 
   made-at silent s on =
       let e : s ≡ q / 2 = omega (arith, on) in
       ap is_unmade (ap (slice_get new) e ∙ sets.is) ∙ not-both (is_lost b) b.told silent where
-    not-both : (x y : Bool) → (x ≡ true → y ≡ false) → (x && y) ≡ false
-    not-both true y h = h refl
-    not-both false y h = refl
+        not-both : (x y : Bool) → (x ≡ true → y ≡ false) → (x && y) ≡ false
+        not-both true y h = h refl
+        not-both false y h = refl
 
   pub calls-at : (f : Option Group → ℕ) → MostCalls rack (f (Some a)) before now → MostCalls rack (f (group_at old q)) before now
   calls-at f call = subst (λ (o : Option Group). MostCalls rack (f o) before now) (sym (group-own old q even ∙ sets.was)) call

@@ -1,13 +1,13 @@
 -- What a group tells, after calls on it.
-use Rattle.std.proofs.Common.{◌≡◌, ℕ, zero, suc, ◌+◌, ◌-◌, ◌<◌, ◌≤◌, Bool, true, false, List, length, drop, refl, sym, ap, subst, ◌∙◌, arith}
-use Rattle.std.specs.Prelude.{IfSome, None, Some, is_some, slice_index, slice_range, ◌&&◌, if◌then◌else◌}
+use Rattle.std.proofs.Common.{◌≡◌, ℕ, ◌+◌, ◌-◌, ◌<◌, ◌≤◌, Bool, true, false, List, length, drop, refl, sym, ap, subst, ◌∙◌, arith}
+use Rattle.std.specs.Prelude.{IfSome, None, Some, slice_index, slice_range, ◌&&◌, if◌then◌else◌}
 use Rattle.std.proofs.lemmas.Bool.{false≢true, and_parts}
 use Rattle.std.proofs.lemmas.List.{ext_get_or, get_or-take, get_or-drop, length-take-le, length-drop}
 use Rattle.dg_io.specs.Told.{Told, IsSame, Reads}
 use Rattle.dg_io.specs.declared.outside.Rack.{Ghosts}
 use Rattle.dg_parity.specs.Stripes.{member_by}
 use Rattle.dg_parity.specs.Groups.{disk_number, is_lost, length_of, bytes_of, AllTold, IsReady, Holds, StandsFor, IsLater, LeavesGroup}
-use Rattle.dg_parity.specs.Kept.{all_upto, all_told, made_by, bytes_in, IsKept}
+use Rattle.dg_parity.specs.Kept.{all_told, made_by, bytes_in, IsKept}
 use Rattle.dg_parity.specs.declared.groups.Group.{Group}
 use Rattle.dg_parity.proofs.GroupLemmas.{told-before, in-before, numbers-later, same-length, same-then}
 use Rattle.dg_parity.proofs.HoldLemmas.{range-before}

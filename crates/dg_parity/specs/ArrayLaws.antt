@@ -1,14 +1,13 @@
 -- Calls of a rack of groups leave what each of them leaves.
-use Rattle.std.proofs.Common.{◌≡◌, ◌∙◌, ◌*◌, ◌<◌, ◌≤◌, ◌++◌, ℕ, Bool, true, false, List, [], inl, inr, refl, sym, ap, subst, arith, length}
-use Rattle.std.specs.Prelude.{slice_get, slice_index}
+use Rattle.std.proofs.Common.{◌≡◌, ◌∙◌, ◌*◌, ◌<◌, ◌≤◌, ◌++◌, ℕ, true, false, List, [], inl, inr, refl, sym, subst, arith, length}
+use Rattle.std.specs.Prelude.{slice_get}
 use Rattle.std.proofs.lemmas.Bool.{cases_Bool, cases_lt, false≢true}
 use Rattle.dg_model.specs.Causes.{Rose}
-use Rattle.dg_model.specs.States.{CountsRise}
 use Rattle.dg_io.specs.MadeLaws.{after_both, after_none, each_back, each_front, same_both, same_told}
 use Rattle.dg_io.specs.RackCalls.{Each, RackCall}
 use Rattle.dg_io.specs.RackWords.{After}
 use Rattle.dg_io.specs.declared.outside.Rack.{Ghosts}
-use Rattle.dg_parity.specs.Arrays.{Grouped, GroupedMade, IsNoBlankOn, IsNoDisk, LeavesBehind, grouped_bytes, grouped_counts, grouped_disks, grouped_keeps, grouped_name, grouped_stands, grouped_steady, grouped_tells, grouped_words, is_unmade}
+use Rattle.dg_parity.specs.Arrays.{Grouped, GroupedMade, IsNoBlankOn, LeavesBehind, grouped_bytes, grouped_counts, grouped_disks, grouped_keeps, grouped_name, grouped_stands, grouped_steady, grouped_tells, grouped_words, is_unmade}
 
 rose_then : (a b c : ℕ) → Rose a b → b ≤ c → Rose a c
 rose_then a b c rose later = omega (arith, rose, later)

@@ -6,7 +6,7 @@ use Rattle.std.proofs.lemmas.Bool.Decides.{nat_tests}
 use Rattle.std.proofs.lemmas.List.Sums.{sum_by-cons}
 use Rattle.dg_io.specs.DiskAnswers.{count_upto, is_group_lost}
 use Rattle.dg_io.specs.declared.outside.Rack.{Ghosts}
-use Rattle.dg_parity.specs.Arrays.{Grouped, IsHeld, group_at, grouped_disks, grouped_stands, is_served, out_of, serves, width_of}
+use Rattle.dg_parity.specs.Arrays.{Grouped, IsHeld, group_at, grouped_disks, grouped_stands, is_served, out_of, width_of}
 use Rattle.dg_parity.specs.Groups.{is_lost, is_out}
 use Rattle.dg_parity.specs.declared.groups.Group.{Group}
 

@@ -1,5 +1,5 @@
 -- Calls of a rack that is plain or of groups leave what each of them leaves.
-use Rattle.std.specs.Prelude.{◌≡◌, ◌+◌, ◌*◌, ◌++◌, ℕ, Bool, true, false, List, [], Option, Some, Result, IfSome, IsSome}
+use Rattle.std.specs.Prelude.{◌≡◌, ◌+◌, ◌*◌, ◌++◌, ℕ, true, false, List, [], Some, Result, IfSome, IsSome}
 use Rattle.std.proofs.Common.{◌⊎◌, ◌∙◌, ap, inl, inr, refl}
 use Rattle.std.proofs.lemmas.Bool.{false≢true}
 use Rattle.dg_io.specs.DiskAnswers.{LeavesMembers, is_group_lost}

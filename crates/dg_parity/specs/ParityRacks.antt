@@ -1,5 +1,5 @@
 -- What a rack over a rack means that is plain, or of groups of disks. A plain one is the rack behind, and has no disks.
-use Rattle.std.specs.Prelude.{◌≡◌, ◌<◌, ℕ, Bool, true, false, List, Option, None, Some, length}
+use Rattle.std.specs.Prelude.{◌≡◌, ◌<◌, ℕ, Bool, true, false, List, Option}
 use Rattle.dg_io.specs.Disks.{DiskStates, no_disks}
 use Rattle.dg_io.specs.Kept.{Kept}
 use Rattle.dg_io.specs.RackCalls.{RackCall}

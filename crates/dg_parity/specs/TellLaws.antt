@@ -5,7 +5,7 @@ use Rattle.std.proofs.lemmas.Bool.{and_parts, cases_Bool, cases_eq, false≢true
 use Rattle.dg_io.specs.declared.outside.Rack.{Ghosts}
 use Rattle.dg_parity.specs.Arrays.{Grouped, IsGroupOf, group_at, grouped_bytes, grouped_stands, grouped_tells, is_served, tells_of, told_of}
 use Rattle.dg_parity.specs.Groups.{AllTold, disk_number, is_lost, is_sure, may_tell}
-use Rattle.dg_parity.specs.Kept.{all_told, all_upto, bytes_in, made_by}
+use Rattle.dg_parity.specs.Kept.{all_told, all_upto, made_by}
 use Rattle.dg_parity.specs.Stripes.{member_by}
 use Rattle.dg_parity.specs.declared.groups.Group.{Group}
 

@@ -1,4 +1,4 @@
-use Rattle.std.proofs.Common.{◌≡◌, ◌<◌, ℕ, length, refl, sym, ap, subst, ◌∙◌}
+use Rattle.std.proofs.Common.{◌<◌, ℕ, length, sym, ap, subst, ◌∙◌}
 use Rattle.dg_io.specs.DiskAnswers.{MendsDisk, LeavesMembers, OneDisk}
 use Rattle.dg_parity.proofs.ArraySteps.{held_on, members_on, handles_on}
 use Rattle.dg_parity.specs.DiskLaws.{member_group}

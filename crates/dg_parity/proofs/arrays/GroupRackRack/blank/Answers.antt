@@ -1,11 +1,11 @@
-use Rattle.std.proofs.Common.{◌≡◌, [], ◌∷◌, refl, subst, true}
+use Rattle.std.proofs.Common.{[], ◌∷◌, refl, subst}
 use Rattle.std.specs.Prelude.{OnOk}
 use Rattle.dg_io.specs.Kept.{KeepsRest}
 use Rattle.dg_io.specs.RackCalls.RackCall.{blanks}
 use Rattle.dg_io.specs.RackWords.{Leaves}
 use Rattle.dg_io.specs.Told.{IsZeros, Told}
 use Rattle.dg_model.specs.Causes.{RoseByOne}
-use Rattle.dg_parity.proofs.ArraySteps.{blank_facts, blank_back, ok_on, held_after, leaves_grouped, made_grouped, tally_of}
+use Rattle.dg_parity.proofs.ArraySteps.{blank_facts, blank_back, held_after, leaves_grouped, made_grouped, tally_of}
 use Rattle.dg_parity.specs.Arrays.{Grouped, GroupedMade, grouped_bytes, grouped_keeps, grouped_stands, grouped_words, IsShaped, GoesOn}
 use Rattle.dg_parity.proofs.arrays.GroupRackRack.blank.Goals as goal
 
