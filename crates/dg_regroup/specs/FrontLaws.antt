@@ -13,7 +13,7 @@ use Rattle.dg_io.specs.declared.outside.Rack.{Ghosts}
 use Rattle.std.specs.Prelude.{slice_index_or}
 use Rattle.dg_regroup.specs.FrontGhosts.{front}
 use Rattle.dg_regroup.specs.FrontMade.{AreFor, FrontMade, IsFor}
-use Rattle.dg_regroup.specs.FrontRacks.{FrontHandles, front_keeps, front_of, front_stands, is_front, is_hidden, shown}
+use Rattle.dg_regroup.specs.FrontRacks.{FrontHandles, front_keeps, front_of, is_front, is_hidden, shown}
 use Rattle.dg_regroup.specs.declared.front_racks.FrontRack.{FrontRack}
 
 -- ---- what a member shows
@@ -201,21 +201,17 @@ module _ {R : Type 0} (rack : Ghosts R) where
 
 -- ---- groups of disks
 
--- what stands of it, by what stands below
-abbrev pub stands_shown : {R : Type 0} → (R → ℕ → Bool) → FrontRack R → ℕ → Bool
-stands_shown stands it q = not (is_hidden it q) && stands it.rack q
-
 module _ {R : Type 0} (disks : R → DiskStates) (stands : R → ℕ → Bool) where
   -- no second member stands of a rack of groups
   pub front_single : ((s : R) (x : ℕ) → IsSome (disks s).width → stands s (2 * x + 1) ≡ false)
-      → (it : FrontRack R) (x : ℕ) → IsSome (disks it.rack).width → stands_shown stands it (2 * x + 1) ≡ false
+      → (it : FrontRack R) (x : ℕ) → IsSome (disks it.rack).width → (not (is_hidden it (2 * x + 1)) && stands it.rack (2 * x + 1)) ≡ false
   front_single law it x some = not_shown (is_hidden it (2 * x + 1)) (stands it.rack (2 * x + 1)) (law it.rack x some)
 
   -- and none of a group of which two disks are out
   pub front_lost : ((s : R) (x : ℕ) → IfSome (disks s).width (λ n. is_group_lost n (disks s).out x ≡ true → stands s (2 * x) ≡ false))
-      → (it : FrontRack R) (x : ℕ) → IfSome (disks it.rack).width (λ n. is_group_lost n (disks it.rack).out x ≡ true → stands_shown stands it (2 * x) ≡ false)
+      → (it : FrontRack R) (x : ℕ) → IfSome (disks it.rack).width (λ n. is_group_lost n (disks it.rack).out x ≡ true → (not (is_hidden it (2 * x)) && stands it.rack (2 * x)) ≡ false)
   front_lost law it x = some (disks it.rack).width (law it.rack x) where
     some : (width : Option ℕ) → IfSome width (λ n. is_group_lost n (disks it.rack).out x ≡ true → stands it.rack (2 * x) ≡ false)
-        → IfSome width (λ n. is_group_lost n (disks it.rack).out x ≡ true → stands_shown stands it (2 * x) ≡ false)
+        → IfSome width (λ n. is_group_lost n (disks it.rack).out x ≡ true → (not (is_hidden it (2 * x)) && stands it.rack (2 * x)) ≡ false)
     some None down = tt
     some (Some n) down = λ is. not_shown (is_hidden it (2 * x)) (stands it.rack (2 * x)) (down is)

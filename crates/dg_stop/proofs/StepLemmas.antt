@@ -5,7 +5,7 @@ use Rattle.std.proofs.lemmas.Bool.{false≢true}
 use Rattle.dg_io.specs.Disks.{no_disks}
 use Rattle.dg_io.specs.Faults.{HasCause}
 use Rattle.dg_io.specs.MadeLaws.{disks_same, each_such}
-use Rattle.dg_io.specs.RackCalls.{Each, IsNoBlank, IsNotOn, RackCall, member_of}
+use Rattle.dg_io.specs.RackCalls.{IsNoBlank, IsNotOn, RackCall, member_of}
 use Rattle.dg_io.specs.RackCalls.RackCall.{calls}
 use Rattle.dg_io.specs.RackWords.{After, Leaves, MadeOnly}
 use Rattle.dg_io.specs.Told.{IsSame, StillTold, Told}

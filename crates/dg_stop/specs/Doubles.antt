@@ -1,5 +1,5 @@
 -- What a rack that keeps two places for each page holds, and what it means as a rack. The rules are this project's own.
-use Rattle.std.specs.Prelude.{◌≡◌, ◌≢◌, ◌≤◌, ◌<◌, ◌^◌, ◌⊎◌, ◌↔◌, ◌&&◌, ℕ, Bool, true, false, List, [], ◌∷◌, Option, Some, None, IsSome, OnOk, Result, length, replicate, slice_get, slice_index}
+use Rattle.std.specs.Prelude.{◌≡◌, ◌≢◌, ◌≤◌, ◌<◌, ◌^◌, ◌⊎◌, ◌↔◌, ◌&&◌, ℕ, Bool, true, false, List, [], Option, Some, None, IsSome, OnOk, Result, length, replicate, slice_get, slice_index}
 use Rattle.dg_io.specs.Disks.{DiskStates, no_disks}
 use Rattle.dg_io.specs.Kept.{HasAnother, IsNothing, Kept, without}
 use Rattle.dg_io.specs.RackCalls.{Each, IsNotOn, RackCall, blanks, calls, extends, looks}
