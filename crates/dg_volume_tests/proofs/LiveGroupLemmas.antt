@@ -1,10 +1,9 @@
 -- What calls leave of volumes over the boundaries in use of racks of groups of disks, also calls that take lost boundaries out of use.
-use Rattle.std.proofs.Common.{◌≡◌, ◌∙◌, ◌≤◌, ◌<◌, ◌+◌, ◌-◌, ◌*◌, ◌/◌, ◌%◌, ◌==◌, ℕ, Bool, true, false, List, [], ap, arith, get_or, length, nat_lt, refl, subst, sym}
+use Rattle.std.proofs.Common.{◌≡◌, ◌∙◌, ◌≤◌, ◌<◌, ◌+◌, ◌-◌, ◌==◌, ℕ, Bool, List, ap, arith, get_or, length, nat_lt, refl, subst, sym}
 use Rattle.std.specs.Global.{Vec}
 use Rattle.std.specs.Int.{bit_at}
 use Rattle.std.specs.List.{filter}
-use Rattle.std.specs.Prelude.{Option, Some, None, IfSome, if◌then◌else◌}
-use Rattle.std.proofs.Math.Nat.{mul-add-mod_self_left}
+use Rattle.std.specs.Prelude.{Option, Some, None, IfSome}
 use Rattle.std.proofs.lemmas.Bool.Decides.{nat_tests}
 use Rattle.std.proofs.lemmas.List.{get_or-map, length-map}
 use Rattle.std.proofs.lemmas.List.FromFn.{get_or-range_with_len, length-range_with_len}
@@ -13,32 +12,30 @@ use Rattle.dg_io.specs.Makes.Makes.{nothing as made_nothing, after as made_after
 use Rattle.dg_io.specs.RackCalls.{RackCall}
 use Rattle.dg_io.specs.Reduced.{places_left}
 use Rattle.dg_io.specs.declared.outside.Rack.{Ghosts}
-use Rattle.dg_model.specs.Lives.{all_live, boundary_at, member_at}
-use Rattle.dg_model.specs.Saves.{member_length}
+use Rattle.dg_model.specs.Lives.{all_live, boundary_at}
 use Rattle.dg_model.specs.Shapes.{IsShape}
 use Rattle.dg_model.specs.Tables.{Table}
 use Rattle.dg_model.specs.declared.shapes.Shape.{Shape}
-use Rattle.dg_parity.specs.Arrays.{Grouped}
-use Rattle.dg_parity.specs.ParityRacks.{IsNew, groups_in, made_by, parity_bytes, parity_words, width_in}
+use Rattle.dg_parity.specs.ParityRacks.{IsNew, groups_in, made_by, parity_words}
 use Rattle.dg_parity.specs.declared.parity_racks.ParityRack.{ParityRack}
 use Rattle.dg_parity.specs.declared.parity_racks.ParityRack.TheVariants.{OfGroups, Plain}
 use Rattle.dg_regroup.specs.LiveGhosts.{live}
 use Rattle.dg_regroup.specs.LiveMade.{calls_below}
 use Rattle.dg_regroup.specs.LivePlaces.{first_groups}
-use Rattle.dg_regroup.specs.LiveRacks.{DropsBoundaries, is_there, live_bytes, live_count, live_groups, live_in, live_left, live_width, rack_in}
+use Rattle.dg_regroup.specs.LiveRacks.{DropsBoundaries, live_count, live_disks, live_groups, live_in, live_left, rack_in}
 use Rattle.dg_regroup.specs.declared.live_racks.LiveRack.{LiveRack}
 use Rattle.dg_store.specs.Stores as stores
-use Rattle.dg_volume.specs.Disks.{AreSingle, LeavesDisks}
+use Rattle.dg_volume.specs.Disks.{LeavesDisks}
 use Rattle.dg_volume.specs.Regroups.{AnswersRegroup, GoesOn, TakesOut}
-use Rattle.dg_volume.specs.Volumes.{IsBlankVolume, Leaves, any_phase, loose_phase, members_of, rack_of, shape_of}
+use Rattle.dg_volume.specs.Volumes.{IsBlankVolume, Leaves, any_phase, loose_phase, rack_of, shape_of}
 use Rattle.dg_volume.specs.declared.phases.AnyPhase.{AnyPhase}
 use Rattle.dg_volume.specs.declared.phases.InPhase as phases
 use Rattle.dg_volume.specs.declared.phases.Loose.{Loose}
 use Rattle.dg_volume.specs.declared.regroups.RegroupAnswer.{RegroupAnswer}
 use Rattle.dg_volume.specs.declared.regroups.RegroupAnswer.TheVariants.{Regrouped, TooFew, Whole}
 use Rattle.dg_volume.specs.declared.volumes.Volume.{Volume}
-use Rattle.dg_volume_tests.specs.Grouped.{IsOfLiveGroups}
-use Rattle.dg_volume_tests.proofs.GroupedLemmas.{new_groups, out_by, second_bytes}
+use Rattle.dg_volume_tests.specs.Grouped.{IsOfLiveGroups, groups_of}
+use Rattle.dg_volume_tests.proofs.GroupedLemmas.{groups_are, new_groups}
 use Rattle.dg_volume_tests.proofs.LiveLemmas.{TellNames, all_ready}
 use Rattle.dg_volume_tests.proofs.PlaceLemmas.{front_passes, left_below, left_front, no_longer}
 use Rattle.dg_volume_tests.proofs.ReadyLemmas.{regrouped_ready, stays_ready}
@@ -65,7 +62,7 @@ calls_still rack may a b (made_after {b = mid} first only) =
     }
 
 -- so many boundaries in use are groups
-groups_still : {R : Type 0} (old new : LiveRack (ParityRack R)) → IsStill old new → live_groups groups_in new ≡ live_groups groups_in old
+groups_still : {R : Type 0} (old new : LiveRack (ParityRack R)) → IsStill old new → groups_of new ≡ groups_of old
 groups_still old new still =
     ap (λ (l : List ℕ). length (filter (λ s. nat_lt s (groups_in (rack_in new))) l)) still.live
     ∙ ap (λ (n : ℕ). length (filter (λ s. nat_lt s n) (live_in old))) still.groups
@@ -92,9 +89,13 @@ blank_live_groups rack law shape is below groups n new before volume made over a
       groups = omega (arith, still, first, ap (λ (l : List ℕ). length (filter (λ s. nat_lt s (groups_in (rack_in before))) l)) all, ap (λ (s : Shape). s.b) blank.shape_is);
     }
 
+-- the groups that the disks tell of
+groups_told : {R : Type 0} (rack : Ghosts R) (it : LiveRack (ParityRack R)) → (live_disks (parity_words rack) it).groups ≡ groups_of it
+groups_told rack it = ap (λ (n : ℕ). live_groups n (live_in it)) (groups_are rack (rack_in it))
+
 -- a call on a single disk
 pub handled_live : {S R : Type 0} (phase : phases.Ghosts S) (rack : Ghosts R) (s j : ℕ) (old new : Volume S (LiveRack (ParityRack R)))
-    → GoesOn phase (live (parity_words rack)) old new → LeavesDisks (live (parity_words rack)) (live_width width_in) (live_groups groups_in) s j old new
+    → GoesOn phase (live (parity_words rack)) old new → LeavesDisks (live (parity_words rack)) s j old new
     → IsOfLiveGroups phase rack old → IsOfLiveGroups phase rack new
 handled_live phase rack s j old new on leaves was =
     let shape = ap (λ (t : Table). t.shape.b) leaves.array.table in record {
@@ -103,7 +104,7 @@ handled_live phase rack s j old new on leaves was =
         names = was.ready.names;
         enough = omega (arith, was.ready.enough, was.ready.names (rack_of new) (rack_of old) leaves.array.leaves.same_rack, shape);
       };
-      groups = omega (arith, was.groups, leaves.array.groups_is, shape);
+      groups = omega (arith, was.groups, groups_told rack (rack_of old), groups_told rack (rack_of new), leaves.array.disks.same_groups.count, shape);
     }
 
 -- ---- without lost boundaries
@@ -127,7 +128,7 @@ left_groups lost m b groups before next wide are is rest x low =
 -- where boundaries were taken out of use
 taken_groups : {R : Type 0} (rack : Ghosts R) (old new : Volume AnyPhase (LiveRack (ParityRack R))) → IsOfLiveGroups any_phase rack old
     → (out : TakesOut (live (parity_words rack)) live_count DropsBoundaries old.store new.store) → (shape_of new).b ≤ live_count (rack_of new)
-    → (shape_of new).b ≤ live_groups groups_in (rack_of new)
+    → (shape_of new).b ≤ groups_of (rack_of new)
 taken_groups rack old new was out enough =
     let mid = stores.rack_of out.mid in
     let left = stores.rack_of out.left in
@@ -136,7 +137,7 @@ taken_groups rack old new was out enough =
     let before = ap (λ (s : Shape). s.b) out.opened.shape in
     let after = ap (λ (s : Shape). s.b) out.read.shape in
     let wide : (stores.shape_of out.mid).b ≤ live_count mid = omega (arith, was.ready.enough, ap length opened.live, before) in
-    let many : (stores.shape_of out.mid).b ≤ live_groups groups_in mid = omega (arith, was.groups, groups_still (rack_of old) mid opened, before) in
+    let many : (stores.shape_of out.mid).b ≤ groups_of mid = omega (arith, was.groups, groups_still (rack_of old) mid opened, before) in
     let groups : groups_in (rack_in (rack_of new)) ≡ groups_in (rack_in mid) = read.groups ∙ ap groups_in out.below.rack in
     let are = left_groups _ (stores.shape_of out.mid).b (stores.shape_of out.left).b (groups_in (rack_in mid)) (live_in mid) (live_in left) wide
     (λ x low. first_groups (groups_in (rack_in mid)) (live_in mid) x mid.ascend (omega (arith, low, many))) out.below.live out.rest in
@@ -162,34 +163,10 @@ regrouped_live rack old new (Regrouped r c) on is was =
 
 -- the rack has a group for each boundary
 pub has_live_groups : {S R : Type 0} (phase : phases.Ghosts S) (rack : Ghosts R) (volume : Volume S (LiveRack (ParityRack R))) → IsOfLiveGroups phase rack volume
-    → IfSome (live_width width_in (rack_of volume)) (λ n. (shape_of volume).b ≤ live_groups groups_in (rack_of volume))
-has_live_groups phase rack volume is = if_some (live_width width_in (rack_of volume)) is.groups where
-  if_some : (o : Option ℕ) → (shape_of volume).b ≤ live_groups groups_in (rack_of volume) → IfSome o (λ n. (shape_of volume).b ≤ live_groups groups_in (rack_of volume))
-  if_some None few = tt
-  if_some (Some n) few = few
-
-if_there : (there : Bool) (told : Option (List ℕ)) → told ≡ Some [] → (if there then told else Some []) ≡ Some []
-if_there true told is = is
-if_there false told is = refl
-
--- the second member of a boundary in use has no byte, and one that isn't there has none
-second_live : {R : Type 0} (rack : Ghosts R) (it : LiveRack (ParityRack R)) (grouped : Grouped R) (x : ℕ) → rack_in it ≡ OfGroups grouped
-    → live_bytes (parity_words rack) it (2 * x + 1) ≡ Some []
-second_live {R = R} rack it grouped x same =
-    let s = boundary_at (live_in it) ((2 * x + 1) / 2) in
-    let odd : (2 * x + 1) % 2 ≡ 1 = mul-add-mod_self_left 2 x 1 in
-    let told : parity_bytes rack (rack_in it) (member_at (live_in it) (2 * x + 1)) ≡ Some [] =
-    ap (λ (r : ℕ). parity_bytes rack (rack_in it) (2 * s + r)) odd ∙ ap (λ (now : ParityRack R). parity_bytes rack now (2 * s + 1)) same ∙ second_bytes rack grouped s in
-    if_there (is_there (live_in it) (2 * x + 1)) (parity_bytes rack (rack_in it) (member_at (live_in it) (2 * x + 1))) told
-
--- no boundary has a second member
-pub has_live_single : {S R : Type 0} (phase : phases.Ghosts S) (rack : Ghosts R) (volume : Volume S (LiveRack (ParityRack R))) → IsOfLiveGroups phase rack volume
-    → IfSome (live_width width_in (rack_of volume)) (λ n. AreSingle volume)
-has_live_single {R = R} phase rack volume is = by_kind (rack_in (rack_of volume)) refl where
-  by_kind : (kind : ParityRack R) → rack_in (rack_of volume) ≡ kind → IfSome (width_in kind) (λ n. AreSingle volume)
-  by_kind (Plain it) same = tt
-  by_kind (OfGroups it) same = λ x. out_by (members_of volume (2 * x + 1)) (λ not.
-      let long : IfSome (live_bytes (parity_words rack) (rack_of volume) (2 * x + 1)) (λ all. member_length 1 (shape_of volume) ≤ length all) = is.ready.well.array.long (2 * x + 1) not in
-      let short : member_length 1 (shape_of volume) ≤ 0 =
-      subst (λ (told : Option (List ℕ)). IfSome told (λ all. member_length 1 (shape_of volume) ≤ length all)) (second_live rack (rack_of volume) it x same) long in
-      absurd (omega (arith, short)))
+    → IfSome (live_disks (parity_words rack) (rack_of volume)).width (λ n. (shape_of volume).b ≤ (live_disks (parity_words rack) (rack_of volume)).groups)
+has_live_groups phase rack volume is =
+    if_some (live_disks (parity_words rack) (rack_of volume)).width (omega (arith, is.groups, groups_told rack (rack_of volume))) where
+      if_some : (o : Option ℕ) → (shape_of volume).b ≤ (live_disks (parity_words rack) (rack_of volume)).groups
+          → IfSome o (λ n. (shape_of volume).b ≤ (live_disks (parity_words rack) (rack_of volume)).groups)
+      if_some None few = tt
+      if_some (Some n) few = few

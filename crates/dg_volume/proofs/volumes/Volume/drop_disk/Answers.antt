@@ -1,5 +1,6 @@
-use Rattle.std.proofs.Common.{false, arith}
-use Rattle.dg_volume.proofs.DiskSteps.{goes, steps_already, steps_dropped}
+use Rattle.std.proofs.Common.{false, arith, refl, subst}
+use Rattle.std.specs.Prelude.{IsSome}
+use Rattle.dg_volume.proofs.DiskSteps.{goes, handled, steps_already, steps_dropped}
 use Rattle.dg_volume.proofs.volumes.Volume.drop_disk.Goals as goal
 
 pub returns-in-Already-clause-steps : goal.returns-in-Already-clause-steps
@@ -27,3 +28,15 @@ returns-in-Dropped-clause-on g c =
     goes g.S.InPhase g.R.Rack c.args.self.now c.drop_disk.new.self c.args.boundary s.place c.args.disk c.requires.well
     (omega arith) s.ensures.some s.ensures.within c.in-Dropped.field-0
     c.in-Dropped.ensures.leaves
+
+pub returns-in-Already-clause-handles : goal.returns-in-Already-clause-handles
+returns-in-Already-clause-handles g c =
+    let s = c.in-Some-place in
+    handled g.S.InPhase g.R.Rack c.args.self.now c.drop_disk.new.self c.args.boundary s.place c.args.disk c.requires.well
+    (omega arith) s.ensures.some s.ensures.within g.R.Disks.handles (c.in-Already.ensures.handles (subst IsSome c.in-Some.ensures refl))
+
+pub returns-in-Dropped-clause-handles : goal.returns-in-Dropped-clause-handles
+returns-in-Dropped-clause-handles g c =
+    let s = c.in-Some-place in
+    handled g.S.InPhase g.R.Rack c.args.self.now c.drop_disk.new.self c.args.boundary s.place c.args.disk c.requires.well
+    (omega arith) s.ensures.some s.ensures.within g.R.Disks.handles (c.in-Dropped.ensures.handles (subst IsSome c.in-Some.ensures refl))

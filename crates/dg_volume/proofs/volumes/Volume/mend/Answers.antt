@@ -1,7 +1,7 @@
 use Rattle.std.proofs.Common.{◌∙◌, ◌+◌, ◌*◌, false, true, refl, subst, sym, arith}
 use Rattle.std.specs.Prelude.{IsSome}
 use Rattle.dg_volume.proofs.DiskLaws.{fallen_out}
-use Rattle.dg_volume.proofs.DiskSteps.{disks_none, goes, steps_failed, steps_lost, steps_mended, steps_not_out}
+use Rattle.dg_volume.proofs.DiskSteps.{disks_none, goes, handled, steps_failed, steps_lost, steps_mended, steps_not_out}
 use Rattle.dg_volume.proofs.volumes.Volume.mend.Goals as goal
 use Rattle.dg_volume.specs.Volumes.{members_of, rack_of}
 
@@ -57,3 +57,27 @@ returns-in-Mended-clause-on g c =
     let s = c.in-Some-place in
     goes g.S.InPhase g.R.Rack c.args.self.now c.mend.new.self c.args.boundary s.place c.args.disk c.requires.well
     (omega arith) s.ensures.some s.ensures.within false c.in-Mended.ensures.leaves
+
+pub returns-in-Lost-clause-handles : goal.returns-in-Lost-clause-handles
+returns-in-Lost-clause-handles g c =
+    let s = c.in-Some-place in
+    handled g.S.InPhase g.R.Rack c.args.self.now c.mend.new.self c.args.boundary s.place c.args.disk c.requires.well
+    (omega arith) s.ensures.some s.ensures.within g.R.Disks.handles (c.in-Lost.ensures.handles (subst IsSome c.in-Some.ensures refl))
+
+pub returns-in-NotOut-clause-handles : goal.returns-in-NotOut-clause-handles
+returns-in-NotOut-clause-handles g c =
+    let s = c.in-Some-place in
+    handled g.S.InPhase g.R.Rack c.args.self.now c.mend.new.self c.args.boundary s.place c.args.disk c.requires.well
+    (omega arith) s.ensures.some s.ensures.within g.R.Disks.handles (c.in-NotOut.ensures.handles (subst IsSome c.in-Some.ensures refl))
+
+pub returns-in-Failed-clause-handles : goal.returns-in-Failed-clause-handles
+returns-in-Failed-clause-handles g c =
+    let s = c.in-Some-place in
+    handled g.S.InPhase g.R.Rack c.args.self.now c.mend.new.self c.args.boundary s.place c.args.disk c.requires.well
+    (omega arith) s.ensures.some s.ensures.within g.R.Disks.handles (c.in-Failed.ensures.handles (subst IsSome c.in-Some.ensures refl))
+
+pub returns-in-Mended-clause-handles : goal.returns-in-Mended-clause-handles
+returns-in-Mended-clause-handles g c =
+    let s = c.in-Some-place in
+    handled g.S.InPhase g.R.Rack c.args.self.now c.mend.new.self c.args.boundary s.place c.args.disk c.requires.well
+    (omega arith) s.ensures.some s.ensures.within g.R.Disks.handles (c.in-Mended.ensures.handles (subst IsSome c.in-Some.ensures refl))
