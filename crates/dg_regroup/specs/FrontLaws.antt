@@ -12,7 +12,7 @@ use Rattle.dg_io.specs.Told.{IsSame, Told}
 use Rattle.dg_io.specs.declared.outside.Rack.{Ghosts}
 use Rattle.dg_regroup.specs.FrontGhosts.{front}
 use Rattle.dg_regroup.specs.FrontMade.{AreFor, FrontMade, IsFor}
-use Rattle.dg_regroup.specs.FrontRacks.{front_keeps, front_of, front_stands, is_front, is_hidden, shown}
+use Rattle.dg_regroup.specs.FrontRacks.{front_keeps, front_of, is_front, is_hidden, shown}
 use Rattle.dg_regroup.specs.declared.front_racks.FrontRack.{FrontRack}
 
 -- ---- what a member shows
@@ -178,18 +178,19 @@ module _ {R : Type 0} (rack : Ghosts R) where
         disks_after = for_disks made done.passed (rack.disks a.rack) (rack.disks b.rack) done.are_for under.disks_after;
       }
 
-  -- ---- groups of disks
+-- ---- groups of disks
 
+module _ {R : Type 0} (disks : R → DiskStates) (stands : R → ℕ → Bool) where
   -- no second member stands of a rack of groups
-  pub front_single : ((s : R) (x : ℕ) → IsSome (rack.disks s).width → rack.stands s (2 * x + 1) ≡ false)
-      → (it : FrontRack R) (x : ℕ) → IsSome (rack.disks it.rack).width → front_stands rack it (2 * x + 1) ≡ false
-  front_single law it x some = not_shown (is_hidden it (2 * x + 1)) (rack.stands it.rack (2 * x + 1)) (law it.rack x some)
+  pub front_single : ((s : R) (x : ℕ) → IsSome (disks s).width → stands s (2 * x + 1) ≡ false)
+      → (it : FrontRack R) (x : ℕ) → IsSome (disks it.rack).width → (not (is_hidden it (2 * x + 1)) && stands it.rack (2 * x + 1)) ≡ false
+  front_single law it x some = not_shown (is_hidden it (2 * x + 1)) (stands it.rack (2 * x + 1)) (law it.rack x some)
 
   -- and none of a group of which two disks are out
-  pub front_lost : ((s : R) (x : ℕ) → IfSome (rack.disks s).width (λ n. is_group_lost n (rack.disks s).out x ≡ true → rack.stands s (2 * x) ≡ false))
-      → (it : FrontRack R) (x : ℕ) → IfSome (rack.disks it.rack).width (λ n. is_group_lost n (rack.disks it.rack).out x ≡ true → front_stands rack it (2 * x) ≡ false)
-  front_lost law it x = some (rack.disks it.rack).width (law it.rack x) where
-    some : (width : Option ℕ) → IfSome width (λ n. is_group_lost n (rack.disks it.rack).out x ≡ true → rack.stands it.rack (2 * x) ≡ false)
-        → IfSome width (λ n. is_group_lost n (rack.disks it.rack).out x ≡ true → front_stands rack it (2 * x) ≡ false)
+  pub front_lost : ((s : R) (x : ℕ) → IfSome (disks s).width (λ n. is_group_lost n (disks s).out x ≡ true → stands s (2 * x) ≡ false))
+      → (it : FrontRack R) (x : ℕ) → IfSome (disks it.rack).width (λ n. is_group_lost n (disks it.rack).out x ≡ true → (not (is_hidden it (2 * x)) && stands it.rack (2 * x)) ≡ false)
+  front_lost law it x = some (disks it.rack).width (law it.rack x) where
+    some : (width : Option ℕ) → IfSome width (λ n. is_group_lost n (disks it.rack).out x ≡ true → stands it.rack (2 * x) ≡ false)
+        → IfSome width (λ n. is_group_lost n (disks it.rack).out x ≡ true → (not (is_hidden it (2 * x)) && stands it.rack (2 * x)) ≡ false)
     some None down = tt
-    some (Some n) down = λ is. not_shown (is_hidden it (2 * x)) (rack.stands it.rack (2 * x)) (down is)
+    some (Some n) down = λ is. not_shown (is_hidden it (2 * x)) (stands it.rack (2 * x)) (down is)

@@ -1,5 +1,5 @@
 -- Calls of a rack of the boundaries in use leave what each of them leaves.
-use Rattle.std.proofs.Common.{◌≡◌, ◌≢◌, ◌∙◌, ◌+◌, ◌*◌, ◌/◌, ◌%◌, ◌<◌, ◌≤◌, ℕ, Bool, true, false, List, [], ◌++◌, Option, None, Some, IfSome, IsSome, length, nat_lt, if◌then◌else◌, refl, sym, ap, subst, arith}
+use Rattle.std.proofs.Common.{◌≡◌, ◌≢◌, ◌∙◌, ◌+◌, ◌*◌, ◌/◌, ◌<◌, ◌≤◌, ℕ, Bool, true, false, List, [], ◌++◌, Option, None, Some, IfSome, IsSome, length, nat_lt, if◌then◌else◌, refl, sym, ap, subst, arith}
 use Rattle.std.specs.Global.{Vec}
 use Rattle.std.specs.List.Sorted.{IsStrictlyIncreasing}
 use Rattle.std.proofs.lemmas.Bool.{false≢true}
@@ -18,7 +18,7 @@ use Rattle.dg_model.specs.Lives.{boundary_at, member_at}
 use Rattle.dg_regroup.specs.LiveGhosts.{live as live_words}
 use Rattle.dg_regroup.specs.LiveMade.{LiveMade, call_below, calls_below, count_absent, is_passed}
 use Rattle.dg_regroup.specs.LivePlaces.{by_there, calls_below_both, calls_counted, count_absent_both, each_below, first_member, live_differs, member_differs, second_member}
-use Rattle.dg_regroup.specs.LiveRacks.{disks_at, is_there, live_disks, live_groups, live_keeps, live_stands, passed}
+use Rattle.dg_regroup.specs.LiveRacks.{disks_at, is_there, live_disks, live_groups, live_keeps, passed}
 use Rattle.dg_regroup.specs.declared.live_racks.LiveRack.{LiveRack}
 
 -- what tells its bytes, and what that is worth, of members that are there
@@ -42,6 +42,27 @@ out_at live s disks here = ap (λ (b : Bool). λ (i : ℕ). if b then disks.out 
 not_there : (there up : Bool) → (there ≡ true → up ≡ false) → (if there then up else false) ≡ false
 not_there true up down = down refl
 not_there false up down = refl
+
+module _ {R : Type 0} (disks : R → DiskStates) (stands : R → ℕ → Bool) where
+  -- no second member stands of a rack of groups
+  pub live_single : ((s : R) (x : ℕ) → IsSome (disks s).width → stands s (2 * x + 1) ≡ false)
+      → (it : LiveRack R) (x : ℕ) → IsSome (disks it.rack).width → passed it.live.items (stands it.rack) (λ q. false) (2 * x + 1) ≡ false
+  live_single law it x some =
+      let down = subst (λ (q : ℕ). stands it.rack q ≡ false) (sym (second_member it.live.items x)) (law it.rack (boundary_at it.live.items x) some) in
+      not_there (is_there it.live.items (2 * x + 1)) (stands it.rack (member_at it.live.items (2 * x + 1))) (λ here. down)
+
+  -- and none of a group of which two disks are out
+  pub live_lost : ((s : R) (x : ℕ) → IfSome (disks s).width (λ n. is_group_lost n (disks s).out x ≡ true → stands s (2 * x) ≡ false))
+      → (it : LiveRack R) (x : ℕ) → IfSome (disks it.rack).width (λ n. is_group_lost n (disks_at it.live.items (disks it.rack)).out x ≡ true → passed it.live.items (stands it.rack) (λ q. false) (2 * x) ≡ false)
+  live_lost law it x = some (disks it.rack).width (law it.rack (boundary_at it.live.items x)) where
+    some : (width : Option ℕ) → IfSome width (λ n. is_group_lost n (disks it.rack).out (boundary_at it.live.items x) ≡ true → stands it.rack (2 * boundary_at it.live.items x) ≡ false)
+        → IfSome width (λ n. is_group_lost n (disks_at it.live.items (disks it.rack)).out x ≡ true → passed it.live.items (stands it.rack) (λ q. false) (2 * x) ≡ false)
+    some None down = tt
+    some (Some n) down = λ is. not_there (is_there it.live.items (2 * x)) (stands it.rack (member_at it.live.items (2 * x))) (λ here.
+        let half : 2 * x / 2 ≡ x = omega arith in
+        let within : nat_lt x (length it.live.items) ≡ true = rw half at here in
+        let group = subst (λ (p : ℕ → Bool). is_group_lost n (λ t. p) x ≡ true) (out_at it.live.items x (disks it.rack) within) is in
+        subst (λ (q : ℕ). stands it.rack q ≡ false) (sym (first_member it.live.items x)) (down group))
 
 module _ {R : Type 0} (rack : Ghosts R) where
   -- what just these calls leave, by what this means of it
@@ -143,26 +164,6 @@ module _ {R : Type 0} (rack : Ghosts R) where
     stay : (there : Bool) (o n : Bool) → (there ≡ true → o ≡ true → n ≡ true) → (if there then o else false) ≡ true → (if there then n else false) ≡ true
     stay true o n h was = h refl was
     stay false o n h was = was
-
-  -- no second member stands of a rack of groups
-  pub live_single : ((s : R) (x : ℕ) → IsSome (rack.disks s).width → rack.stands s (2 * x + 1) ≡ false)
-      → (it : LiveRack R) (x : ℕ) → IsSome (rack.disks it.rack).width → live_stands rack it (2 * x + 1) ≡ false
-  live_single law it x some =
-      let down = subst (λ (q : ℕ). rack.stands it.rack q ≡ false) (sym (second_member it.live.items x)) (law it.rack (boundary_at it.live.items x) some) in
-      not_there (is_there it.live.items (2 * x + 1)) (rack.stands it.rack (member_at it.live.items (2 * x + 1))) (λ here. down)
-
-  -- and none of a group of which two disks are out
-  pub live_lost : ((s : R) (x : ℕ) → IfSome (rack.disks s).width (λ n. is_group_lost n (rack.disks s).out x ≡ true → rack.stands s (2 * x) ≡ false))
-      → (it : LiveRack R) (x : ℕ) → IfSome (rack.disks it.rack).width (λ n. is_group_lost n (live_disks rack it).out x ≡ true → live_stands rack it (2 * x) ≡ false)
-  live_lost law it x = some (rack.disks it.rack).width (law it.rack (boundary_at it.live.items x)) where
-    some : (width : Option ℕ) → IfSome width (λ n. is_group_lost n (rack.disks it.rack).out (boundary_at it.live.items x) ≡ true → rack.stands it.rack (2 * boundary_at it.live.items x) ≡ false)
-        → IfSome width (λ n. is_group_lost n (live_disks rack it).out x ≡ true → live_stands rack it (2 * x) ≡ false)
-    some None down = tt
-    some (Some n) down = λ is. not_there (is_there it.live.items (2 * x)) (rack.stands it.rack (member_at it.live.items (2 * x))) (λ here.
-        let half : 2 * x / 2 ≡ x = omega arith in
-        let within : nat_lt x (length it.live.items) ≡ true = rw half at here in
-        let group = subst (λ (p : ℕ → Bool). is_group_lost n (λ t. p) x ≡ true) (out_at it.live.items x (rack.disks it.rack) within) is in
-        subst (λ (q : ℕ). rack.stands it.rack q ≡ false) (sym (first_member it.live.items x)) (down group))
 
   -- ---- the law
 

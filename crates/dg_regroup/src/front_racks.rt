@@ -222,7 +222,7 @@ impl<R: Disks> Disks for FrontRack<R> {
         self.rack.disks()
     }
 
-    ghost single = { λ it x some. front_single R.Rack R.single it x some };
+    ghost single = { λ it x some. front_single R.disks R.stands R.single it x some };
 
-    ghost lost = { λ it x. front_lost R.Rack R.lost it x };
+    ghost lost = { λ it x. front_lost R.disks R.stands R.lost it x };
 }

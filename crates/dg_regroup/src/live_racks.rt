@@ -282,7 +282,7 @@ impl<R: Disks> Disks for LiveRack<R> {
         self.rack.disks()
     }
 
-    ghost single = { λ it x some. live_single R.Rack R.single it x some };
+    ghost single = { λ it x some. live_single R.disks R.stands R.single it x some };
 
-    ghost lost = { λ it x. live_lost R.Rack R.lost it x };
+    ghost lost = { λ it x. live_lost R.disks R.stands R.lost it x };
 }

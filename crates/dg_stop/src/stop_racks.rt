@@ -3,7 +3,7 @@ use crate::attachments::attach;
 use crate::doubles::DoubleRack;
 use crate::phases::MEMBERS;
 use crate::readings::{is_bare, read_rack};
-use dg_io::{Checkpoint, CommitAnswer, Failed, NoMemory, Rack};
+use dg_io::{Checkpoint, CommitAnswer, Disks, DropAnswer, Failed, MendAnswer, NoMemory, Rack};
 use std::alloc::Global;
 
 /// What an opening gives.
@@ -263,4 +263,37 @@ impl<R: Rack> Checkpoint for StopRack<R> {
             StopRack::Doubled(double) => double.room(),
         }
     }
+}
+
+/// A plain one has the disks of the rack behind. A double one has none: an array that keeps a checkpoint stands on pairs.
+impl<R: Disks> Disks for StopRack<R> {
+    ghost use Rattle.dg_stop.specs.StopLaws.{stop_lost, stop_single};
+    ghost use Rattle.dg_stop.specs.StopRacks.{stop_handles};
+
+    ghost handles = { stop_handles R.handles };
+
+    fn drop_disk(&mut self, s: u8, j: u8) -> DropAnswer {
+        match self {
+            StopRack::Plain(rack) => rack.drop_disk(s, j),
+            StopRack::Doubled(_double) => DropAnswer::Plain,
+        }
+    }
+
+    fn mend(&mut self, s: u8, j: u8) -> MendAnswer {
+        match self {
+            StopRack::Plain(rack) => rack.mend(s, j),
+            StopRack::Doubled(_double) => MendAnswer::Plain,
+        }
+    }
+
+    fn disks(&self) -> Option<u8> {
+        match self {
+            StopRack::Plain(rack) => rack.disks(),
+            StopRack::Doubled(_) => None,
+        }
+    }
+
+    ghost single = { λ it x some. stop_single R.disks R.stands R.single it x some };
+
+    ghost lost = { λ it x. stop_lost R.disks R.stands R.lost it x };
 }
