@@ -44,8 +44,8 @@ module _ {S R : Type 0} (phase : phases.Ghosts S) (rack : Ghosts R) where
     after = record a { store = store }
 
     -- what the call may leave of the rack, by the boundary's number
-    pub handled : (handles : R → ℕ → ℕ → R → Type 0) → handles (rack_of a) s j (stores.rack_of store) → (after ≡ a) ⊎ handles (rack_of a) (place_of a t) j (rack_of after)
-    handled handles left = inr (subst (λ (k : ℕ). handles (rack_of a) k j (stores.rack_of store)) (sym place.is) left)
+    pub rack_left : (handles : R → ℕ → ℕ → R → Type 0) → handles (rack_of a) s j (stores.rack_of store) → (after ≡ a) ⊎ handles (rack_of a) (place_of a t) j (rack_of after)
+    rack_left handles left = inr (subst (λ (k : ℕ). handles (rack_of a) k j (stores.rack_of store)) (sym place.is) left)
 
     module _ (fails : Bool) (h : DiskLeaves rack s j fails a.store store) where
       told : StaysTold rack a.store store
