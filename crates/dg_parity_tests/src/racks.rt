@@ -12,19 +12,23 @@ use std::test::Fail;
 // 69,993 bytes are 137 chunks, in 69 stripes of two.
 const SIZE: u64 = 69993;
 
+// The rack behind, in memory.
+fn behind(alloc: Global) -> Result<MemRack, Fail> {
+    Ok(MemRack::new(alloc, 64, 512 * 70, Vec::from_slice(alloc, &[])?)?)
+}
+
 // A rack whose groups weren't made yet.
-fn made(alloc: Global) -> Result<ParityRack<MemRack>, Fail>
-    ensures { IfOk result (λ it. HasShape 4 3 it) }
+fn made<R: Rack + Drop>(alloc: Global, behind: R) -> Result<ParityRack<R>, Fail>
+    ensures { IfOk result (λ it. HasShape R.Rack 4 3 it) }
 {
-    let below = MemRack::new(alloc, 64, 512 * 70, Vec::from_slice(alloc, &[])?)?;
-    let rack = ParityRack::new(alloc, below, 4, 3)?;
+    let rack = ParityRack::new(alloc, behind, 4, 3)?;
     Ok(rack)
 }
 
 // Makes a member anew. Whether that was done: then the headers say which disks are out.
 fn blanks<R: Rack>(rack: &mut ParityRack<R>, member: u8, size: u64) -> bool
-    requires { HasShape 4 3 rack.old }
-    ensures shape { HasShape 4 3 rack.new }
+    requires { HasShape R.Rack 4 3 rack.old }
+    ensures shape { HasShape R.Rack 4 3 rack.new }
     ensures noted { result ≡ true → IsNoted rack.new member }
 {
     match rack.blank(member, size) {
@@ -35,8 +39,8 @@ fn blanks<R: Rack>(rack: &mut ParityRack<R>, member: u8, size: u64) -> bool
 
 // The length of a member that is there.
 fn long<R: Rack>(rack: &mut ParityRack<R>, member: u8) -> Option<u64>
-    requires { HasShape 4 3 rack.old }
-    ensures shape { HasShape 4 3 rack.new }
+    requires { HasShape R.Rack 4 3 rack.old }
+    ensures shape { HasShape R.Rack 4 3 rack.new }
     ensures stands { IsSome result → parity_stands R.Rack rack.new member ≡ true }
     ensures long { IfSome result (λ n. IfSome (parity_bytes R.Rack rack.new member) (λ all. length all ≡ n)) }
 {
@@ -48,8 +52,8 @@ fn long<R: Rack>(rack: &mut ParityRack<R>, member: u8) -> Option<u64>
 
 // Reads from a member, where it has so many bytes. Whether that was done.
 fn reads<R: Rack>(rack: &mut ParityRack<R>, member: u8, place: u64, buf: &mut [u8]) -> bool
-    requires { HasShape 4 3 rack.old }
-    ensures { HasShape 4 3 rack.new }
+    requires { HasShape R.Rack 4 3 rack.old }
+    ensures { HasShape R.Rack 4 3 rack.new }
 {
     let Some(all) = long(rack, member) else {
         return false;
@@ -65,8 +69,8 @@ fn reads<R: Rack>(rack: &mut ParityRack<R>, member: u8, place: u64, buf: &mut [u
 
 // Writes to a member, where it has so many bytes. Whether that was done: then the headers say which disks are out.
 fn writes<R: Rack>(rack: &mut ParityRack<R>, member: u8, place: u64, buf: &[u8]) -> bool
-    requires { HasShape 4 3 rack.old }
-    ensures shape { HasShape 4 3 rack.new }
+    requires { HasShape R.Rack 4 3 rack.old }
+    ensures shape { HasShape R.Rack 4 3 rack.new }
     ensures noted { result ≡ true → IsNoted rack.new member }
 {
     let Some(all) = long(rack, member) else {
@@ -86,8 +90,8 @@ fn writes<R: Rack>(rack: &mut ParityRack<R>, member: u8, place: u64, buf: &[u8])
 
 // Makes a member longer. Whether that was done: then the headers say which disks are out.
 fn extends<R: Rack>(rack: &mut ParityRack<R>, member: u8, size: u64) -> bool
-    requires { HasShape 4 3 rack.old }
-    ensures shape { HasShape 4 3 rack.new }
+    requires { HasShape R.Rack 4 3 rack.old }
+    ensures shape { HasShape R.Rack 4 3 rack.new }
     ensures noted { result ≡ true → IsNoted rack.new member }
 {
     let Some(all) = long(rack, member) else {
@@ -104,10 +108,10 @@ fn extends<R: Rack>(rack: &mut ParityRack<R>, member: u8, size: u64) -> bool
 
 // A disk goes out. The headers of the others say so, unless the group is lost.
 fn drops<R: Rack>(rack: &mut ParityRack<R>, s: u8, j: u8) -> DropAnswer
-    requires shape { HasShape 4 3 rack.old }
+    requires shape { HasShape R.Rack 4 3 rack.old }
     requires group { s < 4 }
     requires disk { j < 3 }
-    ensures shape { HasShape 4 3 rack.new }
+    ensures shape { HasShape R.Rack 4 3 rack.new }
     ensures noted { result ≡ DropAnswer.Dropped false → IsNoted rack.new (2 * s) }
     ensures goes_on { RackGoesOn R.Rack rack.old rack.new }
 {
@@ -116,10 +120,10 @@ fn drops<R: Rack>(rack: &mut ParityRack<R>, s: u8, j: u8) -> DropAnswer
 
 // A disk comes back, in a bounded number of calls. Where it wasn't out, the disks are as they were.
 fn mends<R: Rack>(rack: &mut ParityRack<R>, s: u8, j: u8) -> MendAnswer
-    requires shape { HasShape 4 3 rack.old }
+    requires shape { HasShape R.Rack 4 3 rack.old }
     requires group { s < 4 }
     requires disk { j < 3 }
-    ensures shape { HasShape 4 3 rack.new }
+    ensures shape { HasShape R.Rack 4 3 rack.new }
     ensures noted { (c : ℕ) → result ≡ MendAnswer.Mended c → IsNoted rack.new (2 * s) }
     ensures idle { result ≡ MendAnswer.NotOut → parity_disks R.Rack rack.new ≡ parity_disks R.Rack rack.old }
     ensures goes_on { RackGoesOn R.Rack rack.old rack.new }
@@ -131,7 +135,7 @@ fn mends<R: Rack>(rack: &mut ParityRack<R>, s: u8, j: u8) -> MendAnswer
 // Block 3 of boundary 3 begins at byte 512 of its member.
 #[test]
 fn a_member_without_a_disk(rt: HostRuntime) -> Result<(), Fail> {
-    let mut rack = made(rt.alloc())?;
+    let mut rack = made(rt.alloc(), behind(rt.alloc())?)?;
     let mut buf = [0; 1024];
     let mut got = [1; 1024];
     assert!(rt; blanks(&mut rack, 6, SIZE));
@@ -160,7 +164,7 @@ fn is_longer(got: &[u8; 2000]) -> bool {
 
 #[test]
 fn a_longer_member(rt: HostRuntime) -> Result<(), Fail> {
-    let mut rack = made(rt.alloc())?;
+    let mut rack = made(rt.alloc(), behind(rt.alloc())?)?;
     let mut got = [1; 2000];
     assert!(rt; blanks(&mut rack, 2, 700));
     assert!(rt; writes(&mut rack, 2, 0, &[0xff; 700]));
@@ -178,7 +182,7 @@ fn a_longer_member(rt: HostRuntime) -> Result<(), Fail> {
 
 #[test]
 fn members_that_are_not_there(rt: HostRuntime) -> Result<(), Fail> {
-    let mut rack = made(rt.alloc())?;
+    let mut rack = made(rt.alloc(), behind(rt.alloc())?)?;
     assert!(rt; rack.disks() == Some(3));
     assert!(rt; long(&mut rack, 0) == None);
     assert!(rt; drops(&mut rack, 0, 0) == DropAnswer::Already);
