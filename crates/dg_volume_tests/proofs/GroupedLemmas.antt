@@ -1,11 +1,11 @@
 -- What calls leave of volumes over racks of groups of disks, and what calls on single disks ask of them.
-use Rattle.std.proofs.Common.{◌≡◌, ◌≤◌, ℕ, ap, arith, refl}
+use Rattle.std.proofs.Common.{◌≡◌, ◌≤◌, ℕ, ap, arith}
 use Rattle.std.specs.Prelude.{Option, Some, None, IfSome}
 use Rattle.dg_io.specs.declared.outside.Rack.{Ghosts}
 use Rattle.dg_model.specs.Tables.{Table}
 use Rattle.dg_model.specs.declared.shapes.Shape.{Shape}
 use Rattle.dg_parity.specs.ParityLaws.{shape_stays}
-use Rattle.dg_parity.specs.ParityRacks.{IsNew, groups_in, parity_disks, parity_words}
+use Rattle.dg_parity.specs.ParityRacks.{IsNew, parity_disks, parity_words}
 use Rattle.dg_parity.specs.declared.parity_racks.ParityRack.{ParityRack}
 use Rattle.dg_parity.specs.declared.parity_racks.ParityRack.TheVariants.{OfGroups, Plain}
 use Rattle.dg_store.specs.Leaves.{IsCallBelow, IsCallOrBlankBelow}
@@ -19,12 +19,7 @@ use Rattle.dg_volume_tests.specs.Grouped.{IsOfGroups}
 
 -- ---- what calls leave
 
--- the groups that its disks tell of
-pub groups_are : {R : Type 0} (rack : Ghosts R) (it : ParityRack R) → (parity_disks rack it).groups ≡ groups_in it
-groups_are rack (Plain it) = refl
-groups_are rack (OfGroups it) = refl
-
-pub new_groups : {R : Type 0} (rack : Ghosts R) (below : R) (groups n : ℕ) (it : ParityRack R) → IsNew rack below groups n it → groups_in it ≡ groups
+pub new_groups : {R : Type 0} (rack : Ghosts R) (below : R) (groups n : ℕ) (it : ParityRack R) → IsNew rack below groups n it → (parity_disks rack it).groups ≡ groups
 new_groups rack below groups n (Plain it) new = absurd new
 new_groups rack below groups n (OfGroups it) new = new.count
 
@@ -35,7 +30,7 @@ blank_grouped rack shape below groups n before volume new few blank =
     let stays = shape_stays rack (parity_words rack) (λ a b calls made. made) (IsCallOrBlankBelow shape.b) before (rack_of volume) blank.own.made in
     record {
       well = blank.well;
-      groups = omega (arith, few, new_groups rack below groups n before new, stays.groups, ap (λ (s : Shape). s.b) blank.shape_is);
+      groups = omega (arith, few, new_groups rack below groups n before new, stays.count, ap (λ (s : Shape). s.b) blank.shape_is);
     }
 
 -- any call but those on single disks
@@ -45,7 +40,7 @@ stays_grouped from to rack old new leaves was =
     let stays = shape_stays rack (parity_words rack) (λ a b calls made. made) (IsCallBelow (shape_of old).b) (rack_of old) (rack_of new) leaves.own.made in
     record {
       well = leaves.well;
-      groups = omega (arith, was.groups, stays.groups, ap (λ (s : Shape). s.b) leaves.shape);
+      groups = omega (arith, was.groups, stays.count, ap (λ (s : Shape). s.b) leaves.shape);
     }
 
 -- a call on a single disk
@@ -53,7 +48,7 @@ pub handled_grouped : {S R : Type 0} (phase : phases.Ghosts S) (rack : Ghosts R)
     → GoesOn phase (parity_words rack) old new → LeavesDisks (parity_words rack) s j old new → IsOfGroups phase rack old → IsOfGroups phase rack new
 handled_grouped phase rack s j old new on leaves was = record {
   well = on.well;
-  groups = omega (arith, was.groups, groups_are rack (rack_of old), groups_are rack (rack_of new), leaves.array.disks.same_groups.count, ap (λ (t : Table). t.shape.b) leaves.array.table);
+  groups = omega (arith, was.groups, leaves.array.disks.same_groups.count, ap (λ (t : Table). t.shape.b) leaves.array.table);
 }
 
 -- ---- what calls on single disks ask for
@@ -61,7 +56,7 @@ handled_grouped phase rack s j old new on leaves was = record {
 -- the rack has a group for each boundary
 pub has_groups : {S R : Type 0} (phase : phases.Ghosts S) (rack : Ghosts R) (volume : Volume S (ParityRack R)) → IsOfGroups phase rack volume
     → IfSome (parity_disks rack (rack_of volume)).width (λ n. (shape_of volume).b ≤ (parity_disks rack (rack_of volume)).groups)
-has_groups phase rack volume is = if_some (parity_disks rack (rack_of volume)).width (omega (arith, is.groups, groups_are rack (rack_of volume))) where
+has_groups phase rack volume is = if_some (parity_disks rack (rack_of volume)).width is.groups where
   if_some : (o : Option ℕ) → (shape_of volume).b ≤ (parity_disks rack (rack_of volume)).groups → IfSome o (λ n. (shape_of volume).b ≤ (parity_disks rack (rack_of volume)).groups)
   if_some None few = tt
   if_some (Some n) few = few
