@@ -3,8 +3,9 @@ use Rattle.std.proofs.Common.{◌≡◌, ◌≢◌, ◌≤◌, ◌<◌, ◌*◌,
 use Rattle.std.specs.List.Sorted.{IsStrictlyIncreasing}
 use Rattle.std.proofs.lemmas.Bool.{false≢true}
 use Rattle.std.proofs.lemmas.Bool.Decides.{nat_tests}
-use Rattle.dg_io.specs.DiskAnswers.{HandlesAs, IsServed, LeavesMembers, MendsDisk, OneDisk, is_group_lost}
+use Rattle.dg_io.specs.DiskAnswers.{DropsDisk, HandlesAs, IsServed, LeavesMembers, MendsDisk, OneDisk, is_group_lost}
 use Rattle.dg_io.specs.Disks.{DiskStates}
+use Rattle.dg_io.specs.declared.disks.DropAnswer.{DropAnswer}
 use Rattle.dg_io.specs.declared.disks.MendAnswer.{MendAnswer}
 use Rattle.dg_io.specs.declared.disks.MendAnswer.TheVariants.{Lost, NotOut}
 use Rattle.dg_io.specs.declared.outside.Rack.{Ghosts}
@@ -58,6 +59,18 @@ one_disk_through live s j old new rise within one = record {
   stay : (there : Bool) (o n : Bool) → (there ≡ true → o ≡ true → n ≡ true) → (if there then o else false) ≡ true → (if there then n else false) ≡ true
   stay true o n h was = h refl was
   stay false o n h was = was
+
+pub drops_through : (live : List ℕ) (width : Option ℕ) (s j : ℕ) (answer : DropAnswer) (old new : DiskStates) → s < length live
+    → IfSome width (λ n. DropsDisk n (boundary_at live s) j old new answer) → IfSome width (λ n. DropsDisk n s j (disks_at live old) (disks_at live new) answer)
+drops_through live None s j answer old new within drops = tt
+drops_through live (Some n) s j answer old new within drops = record {
+  already = rw there drops.already;
+  idle = λ is. ap (disks_at live) (drops.idle is);
+  out = rw there drops.out;
+  dropped = λ lost is. subst (λ (p : ℕ → Bool). lost ≡ is_group_lost n (λ t. p) s) (sym (out_at live s new there)) (drops.dropped lost is);
+} where
+  there : nat_lt s (length live) ≡ true
+  there = grind (arith, nat_tests, within)
 
 pub mends_through : (live : List ℕ) (width : Option ℕ) (s j : ℕ) (answer : MendAnswer) (old new : DiskStates) → s < length live
     → IfSome width (λ n. MendsDisk n (boundary_at live s) j old new answer) → IfSome width (λ n. MendsDisk n s j (disks_at live old) (disks_at live new) answer)

@@ -1,5 +1,5 @@
 -- A call on a disk, and then the failure of the group's member where two of its disks are out: the store is sound again.
-use Rattle.std.proofs.Common.{◌≡◌, ◌≢◌, ◌∙◌, ◌*◌, inl, inr, ℕ, Bool, true, false, List, refl, sym, ap, subst}
+use Rattle.std.proofs.Common.{◌≡◌, ◌≢◌, ◌∙◌, ◌*◌, inl, inr, ℕ, Bool, true, false, refl, sym, ap, subst}
 use Rattle.std.specs.Prelude.{Option, Some, None, IfSome, IsSome}
 use Rattle.std.proofs.lemmas.Bool.{cases_eq, false≢true}
 use Rattle.dg_io.specs.DiskAnswers.{DropsDisk, IsServed, LeavesMembers, MendsDisk, OneDisk, is_group_lost}

@@ -1,5 +1,6 @@
 -- What calls on single disks leave of an array.
-use Rattle.std.proofs.Common.{◌≡◌, ◌≢◌, ◌∙◌, ◌⊎◌, ◌*◌, ℕ, Bool, true, false, inl, inr, refl, sym, ap, arith}
+use Rattle.std.proofs.Common.{◌≡◌, ◌≢◌, ◌∙◌, ◌⊎◌, ◌*◌, ℕ, Bool, true, false, inl, inr, refl, sym, ap, subst, arith}
+use Rattle.std.specs.Prelude.{IsSome, Option, Some}
 use Rattle.std.proofs.lemmas.Bool.{false≢true}
 use Rattle.dg_io.specs.DiskAnswers.{LeavesMembers, OneDisk}
 use Rattle.dg_io.specs.Disks.{DiskStates}
@@ -36,6 +37,10 @@ fails_good false s old new h q good = ap (λ (m : ℕ → MemberState). is_good 
 pub fails_or : (fails : Bool) (s : ℕ) (old new : ℕ → MemberState) → FailsWhere fails s old new → (new ≡ old) ⊎ IsStruck (2 * s) old new
 fails_or true s old new h = inr h
 fails_or false s old new h = inl h
+
+-- the width that a rack has
+pub some_is : (n : ℕ) (width : Option ℕ) → Some n ≡ width → IsSome width
+some_is n width is = subst IsSome is refl
 
 -- ---- nothing is done
 

@@ -1,5 +1,5 @@
 -- A volume makes a step by the loss and the mending of a single disk.
-use Rattle.std.proofs.Common.{◌≡◌, ◌∙◌, ◌<◌, ◌+◌, ◌*◌, ℕ, Bool, true, false, List, inl, inr, length, refl, sym, ap, subst, arith}
+use Rattle.std.proofs.Common.{◌≡◌, ◌⊎◌, ◌∙◌, ◌<◌, ◌+◌, ◌*◌, ℕ, Bool, true, false, List, inl, inr, length, refl, sym, ap, subst, arith}
 use Rattle.std.specs.Prelude.{Some}
 use Rattle.std.proofs.lemmas.Bool.{false≢true}
 use Rattle.dg_io.specs.declared.outside.Rack.{Ghosts}
@@ -42,6 +42,10 @@ module _ {S R : Type 0} (phase : phases.Ghosts S) (rack : Ghosts R) where
 
     abbrev after : Volume S R
     after = record a { store = store }
+
+    -- what the call may leave of the rack, by the boundary's number
+    pub rack_left : (handles : R → ℕ → ℕ → R → Type 0) → handles (rack_of a) s j (stores.rack_of store) → (after ≡ a) ⊎ handles (rack_of a) (place_of a t) j (rack_of after)
+    rack_left handles left = inr (subst (λ (k : ℕ). handles (rack_of a) k j (stores.rack_of store)) (sym place.is) left)
 
     module _ (fails : Bool) (h : DiskLeaves rack s j fails a.store store) where
       told : StaysTold rack a.store store

@@ -33,7 +33,7 @@ returns-in-Some-clause-answer g c =
     let width : width_at old c.args.s ≡ a.disks = ap width_of sets.was in
     let lt : c.args.j < a.disks = subst (λ (n : ℕ). c.args.j < n) width c.requires.disk in
     subst (λ (n : ℕ). DropsDisk n c.args.s c.args.j (states_in g.R.Rack n old c.args.rack.now) (states_in g.R.Rack n (slice_set old c.args.s b) c.drop_disk.new.rack) c.drop_disk.result) (sym width)
-    (drops-disk g.R.Rack c.args.s c.args.j old (slice_set old c.args.s b) a b c.args.rack.now c.drop_disk.new.rack c.requires.kept sets turns c.drop_disk.result lt c.drop_disk.ensures.out c.drop_disk.ensures.already c.drop_disk.ensures.lost)
+    (drops-disk g.R.Rack c.args.s c.args.j old (slice_set old c.args.s b) a b c.args.rack.now c.drop_disk.new.rack c.requires.kept sets turns c.drop_disk.result lt c.drop_disk.ensures.out c.drop_disk.ensures.already c.drop_disk.ensures.lost c.drop_disk.ensures.idle)
 
 pub returns-in-Some-clause-goes_on : goal.returns-in-Some-clause-goes_on
 returns-in-Some-clause-goes_on g c =

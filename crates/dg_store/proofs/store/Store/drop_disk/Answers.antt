@@ -1,12 +1,11 @@
-use Rattle.std.proofs.Common.{◌∙◌, ◌≡◌, Bool, refl, sym, ap, subst}
-use Rattle.std.specs.Prelude.{IfSome, IsSome}
+use Rattle.std.proofs.Common.{◌∙◌, Bool, refl, sym, ap, subst}
+use Rattle.std.specs.Prelude.{IfSome}
 use Rattle.dg_io.specs.DiskAnswers.{DropsDisk}
 use Rattle.dg_io.specs.Disks.{DiskStates}
 use Rattle.dg_store.proofs.DiskLaws.{drop_leaves, still_whole}
 use Rattle.dg_store.proofs.store.Store.drop_disk.Goals as goal
 use Rattle.dg_store.specs.DiskCalls.{FailsWhere, drop_loses}
 use Rattle.dg_store.specs.Stores.{members_of, rack_of}
-use Rattle.dg_store.specs.declared.store.Store.{Store}
 
 pub fail_where-requires-clause-whole : goal.fail_where-requires-clause-whole
 fail_where-requires-clause-whole g c = still_whole g.R.Rack g.met.R.Rack.told c.args.self.now c.drop_disk-answer.new.self c.args.s c.requires.sound c.drop_disk-answer.ensures.leaves

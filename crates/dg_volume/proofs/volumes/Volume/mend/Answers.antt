@@ -1,7 +1,6 @@
-use Rattle.std.proofs.Common.{◌∙◌, ◌+◌, ◌*◌, false, true, refl, subst, sym, arith}
-use Rattle.std.specs.Prelude.{IsSome}
-use Rattle.dg_volume.proofs.DiskLaws.{fallen_out}
-use Rattle.dg_volume.proofs.DiskSteps.{disks_none, goes, steps_failed, steps_lost, steps_mended, steps_not_out}
+use Rattle.std.proofs.Common.{◌∙◌, ◌+◌, ◌*◌, false, true, sym, arith}
+use Rattle.dg_volume.proofs.DiskLaws.{fallen_out, some_is}
+use Rattle.dg_volume.proofs.DiskSteps.{disks_none, goes, rack_left, steps_failed, steps_lost, steps_mended, steps_not_out}
 use Rattle.dg_volume.proofs.volumes.Volume.mend.Goals as goal
 use Rattle.dg_volume.specs.Volumes.{members_of, rack_of}
 
@@ -14,7 +13,7 @@ returns-in-Lost-clause-steps g c =
     steps_lost g.S.InPhase g.R.Rack c.args.self.now c.mend.new.self c.args.boundary s.place c.args.disk c.requires.well
     (omega arith) s.ensures.some s.ensures.within c.in-Lost.ensures.leaves (sym c.is_lost_at.ensures ∙ c.if-is_lost_at.false)
     (fallen_out (members_of c.args.self.now (2 * s.place + 1)) (g.R.Rack.stands (rack_of c.args.self.now) (2 * s.place + 1)) (c.requires.well.array.stand (2 * s.place + 1))
-    (g.met.R.Disks.single (rack_of c.args.self.now) s.place (subst IsSome c.in-Some.ensures refl)))
+    (g.met.R.Disks.single (rack_of c.args.self.now) s.place (some_is _ (g.R.Rack.disks (rack_of c.args.self.now)).width c.in-Some.ensures)))
 
 pub returns-in-Lost-clause-on : goal.returns-in-Lost-clause-on
 returns-in-Lost-clause-on g c =
@@ -57,3 +56,27 @@ returns-in-Mended-clause-on g c =
     let s = c.in-Some-place in
     goes g.S.InPhase g.R.Rack c.args.self.now c.mend.new.self c.args.boundary s.place c.args.disk c.requires.well
     (omega arith) s.ensures.some s.ensures.within false c.in-Mended.ensures.leaves
+
+pub returns-in-Lost-clause-handles : goal.returns-in-Lost-clause-handles
+returns-in-Lost-clause-handles g c =
+    let s = c.in-Some-place in
+    rack_left g.S.InPhase g.R.Rack c.args.self.now c.mend.new.self c.args.boundary s.place c.args.disk c.requires.well
+    (omega arith) s.ensures.some s.ensures.within g.R.Disks.handles (c.in-Lost.ensures.handles (some_is _ (g.R.Rack.disks (rack_of c.args.self.now)).width c.in-Some.ensures))
+
+pub returns-in-NotOut-clause-handles : goal.returns-in-NotOut-clause-handles
+returns-in-NotOut-clause-handles g c =
+    let s = c.in-Some-place in
+    rack_left g.S.InPhase g.R.Rack c.args.self.now c.mend.new.self c.args.boundary s.place c.args.disk c.requires.well
+    (omega arith) s.ensures.some s.ensures.within g.R.Disks.handles (c.in-NotOut.ensures.handles (some_is _ (g.R.Rack.disks (rack_of c.args.self.now)).width c.in-Some.ensures))
+
+pub returns-in-Failed-clause-handles : goal.returns-in-Failed-clause-handles
+returns-in-Failed-clause-handles g c =
+    let s = c.in-Some-place in
+    rack_left g.S.InPhase g.R.Rack c.args.self.now c.mend.new.self c.args.boundary s.place c.args.disk c.requires.well
+    (omega arith) s.ensures.some s.ensures.within g.R.Disks.handles (c.in-Failed.ensures.handles (some_is _ (g.R.Rack.disks (rack_of c.args.self.now)).width c.in-Some.ensures))
+
+pub returns-in-Mended-clause-handles : goal.returns-in-Mended-clause-handles
+returns-in-Mended-clause-handles g c =
+    let s = c.in-Some-place in
+    rack_left g.S.InPhase g.R.Rack c.args.self.now c.mend.new.self c.args.boundary s.place c.args.disk c.requires.well
+    (omega arith) s.ensures.some s.ensures.within g.R.Disks.handles (c.in-Mended.ensures.handles (some_is _ (g.R.Rack.disks (rack_of c.args.self.now)).width c.in-Some.ensures))
