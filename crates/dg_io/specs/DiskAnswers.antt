@@ -29,6 +29,8 @@ pub record OneDisk (s j : ℕ) (old new : DiskStates) : Type 0 where
 -- The answers, by the disks before and after. n is how many disks a group has.
 pub record DropsDisk (n s j : ℕ) (old new : DiskStates) (answer : DropAnswer) : Type 0 where
   pub already : (answer ≡ Already) ↔ (old.out s j ≡ true)
+  -- where it was out, nothing is done
+  pub idle : answer ≡ Already → new ≡ old
   pub out : new.out s j ≡ true
   pub dropped : (lost : Bool) → answer ≡ Dropped lost → lost ≡ is_group_lost n new.out s
 
@@ -57,3 +59,8 @@ pub record LeavesMembers {S : Type 0} (rack : Ghosts S) (s : ℕ) (old new : S) 
   pub same : (q : ℕ) → Told IsSame (rack.bytes old q) (rack.bytes new q)
   pub told_before : (q : ℕ) → rack.tells new q → rack.tells old q
   pub keeps_on : KeepsOn rack.keeps old new
+
+-- what a call on disk j of group s leaves of its disks and of the rack
+pub record HandlesAs {S : Type 0} (rack : Ghosts S) (s j : ℕ) (old new : S) : Type 0 where
+  pub one : OneDisk s j (rack.disks old) (rack.disks new)
+  pub leaves : LeavesMembers rack s old new

@@ -22,8 +22,6 @@ impl Checkpoint for MemRack {
 }
 
 impl Disks for MemRack {
-    ghost handles = { λ old s j new. new ≡ old };
-
     fn drop_disk(&mut self, _s: u8, _j: u8) -> DropAnswer {
         DropAnswer::Plain
     }
@@ -35,6 +33,8 @@ impl Disks for MemRack {
     fn disks(&self) -> Option<u8> {
         None
     }
+
+    ghost handled = { λ a b s j h. absurd h };
 
     ghost single = { λ it x some. absurd (false≢true some) };
 
@@ -59,8 +59,6 @@ impl Checkpoint for SureRack {
 }
 
 impl Disks for SureRack {
-    ghost handles = { λ old s j new. new ≡ old };
-
     fn drop_disk(&mut self, _s: u8, _j: u8) -> DropAnswer {
         DropAnswer::Plain
     }
@@ -72,6 +70,8 @@ impl Disks for SureRack {
     fn disks(&self) -> Option<u8> {
         None
     }
+
+    ghost handled = { λ a b s j h. absurd h };
 
     ghost single = { λ it x some. absurd (false≢true some) };
 

@@ -31,6 +31,8 @@ impl<R: Rack> Rack for PlainRack<R> {
 
     ghost made = { λ a calls b. R.made a.rack calls b.rack };
 
+    ghost handles = { λ a s j b. ⊥ };
+
     fn blank(&mut self, member: u8, length: u64) -> Result<(), Failed> {
         self.rack.blank(member, length)
     }
@@ -64,8 +66,6 @@ impl<R: Rack> Rack for PlainRack<R> {
 }
 
 impl<R: Rack> Disks for PlainRack<R> {
-    ghost handles = { λ old s j new. new ≡ old };
-
     fn drop_disk(&mut self, _s: u8, _j: u8) -> DropAnswer {
         DropAnswer::Plain
     }
@@ -77,6 +77,8 @@ impl<R: Rack> Disks for PlainRack<R> {
     fn disks(&self) -> Option<u8> {
         None
     }
+
+    ghost handled = { λ a b s j h. absurd h };
 
     ghost single = { λ it x some. absurd (false≢true some) };
 

@@ -5,25 +5,25 @@ use Rattle.dg_volume.proofs.volumes.Volume.drop_disk.Goals as goal
 pub returns-in-Already-clause-steps : goal.returns-in-Already-clause-steps
 returns-in-Already-clause-steps g c =
     let s = c.in-Some-place in
-    steps_already g.S.InPhase g.R.Rack g.R.Disks.width g.R.Disks.groups c.args.self.now c.drop_at.new.store c.args.boundary s.place c.args.disk c.requires.well
-    (omega arith) s.ensures.some s.ensures.within c.in-Already.ensures.handles
+    steps_already g.S.InPhase g.R.Rack c.args.self.now c.drop_disk.new.self c.args.boundary s.place c.args.disk c.requires.well
+    (omega arith) s.ensures.some s.ensures.within c.in-Already.ensures.leaves
 
 pub returns-in-Already-clause-on : goal.returns-in-Already-clause-on
 returns-in-Already-clause-on g c =
     let s = c.in-Some-place in
-    goes g.S.InPhase g.R.Rack g.R.Disks.width g.R.Disks.groups c.args.self.now c.drop_at.new.store c.args.boundary s.place c.args.disk c.requires.well
-    (omega arith) s.ensures.some s.ensures.within false c.in-Already.ensures.handles
+    goes g.S.InPhase g.R.Rack c.args.self.now c.drop_disk.new.self c.args.boundary s.place c.args.disk c.requires.well
+    (omega arith) s.ensures.some s.ensures.within false c.in-Already.ensures.leaves
 
 pub returns-in-Dropped-clause-steps : goal.returns-in-Dropped-clause-steps
 returns-in-Dropped-clause-steps g c =
     let s = c.in-Some-place in
-    steps_dropped g.S.InPhase g.R.Rack g.R.Disks.width g.R.Disks.groups c.args.self.now c.drop_at.new.store c.args.boundary s.place c.args.disk c.requires.well
+    steps_dropped g.S.InPhase g.R.Rack c.args.self.now c.drop_disk.new.self c.args.boundary s.place c.args.disk c.requires.well
     (omega arith) s.ensures.some s.ensures.within c.in-Dropped.field-0
-    c.in-Dropped.ensures.handles
+    c.in-Dropped.ensures.leaves
 
 pub returns-in-Dropped-clause-on : goal.returns-in-Dropped-clause-on
 returns-in-Dropped-clause-on g c =
     let s = c.in-Some-place in
-    goes g.S.InPhase g.R.Rack g.R.Disks.width g.R.Disks.groups c.args.self.now c.drop_at.new.store c.args.boundary s.place c.args.disk c.requires.well
+    goes g.S.InPhase g.R.Rack c.args.self.now c.drop_disk.new.self c.args.boundary s.place c.args.disk c.requires.well
     (omega arith) s.ensures.some s.ensures.within c.in-Dropped.field-0
-    c.in-Dropped.ensures.handles
+    c.in-Dropped.ensures.leaves
