@@ -119,9 +119,10 @@ module _ {S : Type 0} (rack : Ghosts S) (s j : ℕ) (old new : List Group) (a b 
     ]
 
   pub drops-disk : (answer : DropAnswer) → j < a.disks → is_out b j ≡ true → ((answer ≡ Already) ↔ (is_out a j ≡ true)) → ((lost : Bool) → answer ≡ Dropped lost → lost ≡ is_lost b)
-      → DropsDisk a.disks s j (states_in rack a.disks old before) (states_in rack a.disks new now) answer
-  drops-disk answer lt out already lost = record {
+      → (is_out a j ≡ true → (b ≡ a) × (now ≡ before)) → DropsDisk a.disks s j (states_in rack a.disks old before) (states_in rack a.disks new now) answer
+  drops-disk answer lt out already lost still = record {
     already = (λ h. out-was lt ∙ already.0 h, λ h. already.1 (sym (out-was lt) ∙ h));
+    idle = λ h. states-same a.disks (still (already.0 h));
     out = out-is lt ∙ out;
     dropped = λ b1 h. lost b1 h ∙ sym (lost-at a.disks);
   }

@@ -52,13 +52,13 @@ past_end [] j le = refl
 past_end (x ∷ xs) zero le = absurd (omega (arith, le))
 past_end (x ∷ xs) (suc j) le = past_end xs j (omega (arith, le))
 
-lt_true : (j n : ℕ) → j < n → nat_lt j n ≡ true
+pub lt_true : (j n : ℕ) → j < n → nat_lt j n ≡ true
 lt_true j n lt = grind (arith, nat_tests)
 
 lt_false : (j n : ℕ) → n ≤ j → nat_lt j n ≡ false
 lt_false j n le = grind (arith, nat_tests)
 
-out_past : (group : Group) (j : ℕ) → group.disks ≤ j → out_of (Some group) j ≡ false
+pub out_past : (group : Group) (j : ℕ) → group.disks ≤ j → out_of (Some group) j ≡ false
 out_past group j le = ap (λ (b : Bool). b && is_out group j) (lt_false j group.disks le)
 
 -- a group is lost where two of its disks are out
@@ -112,7 +112,7 @@ not_true : (b : Bool) → not b ≡ false → b ≡ true
 not_true true h = refl
 not_true false h = absurd (false≢true (sym h))
 
-there : (groups : List Group) (s : ℕ) → s < length groups → (group : Group) × (slice_get groups s ≡ Some group)
+pub there : (groups : List Group) (s : ℕ) → s < length groups → (group : Group) × (slice_get groups s ≡ Some group)
 there [] s lt = absurd (omega (arith, lt))
 there (group ∷ groups) zero lt = (group, refl)
 there (group ∷ groups) (suc s) lt = there groups s (omega (arith, lt))
