@@ -19,3 +19,4 @@ pub mod Sound
 pub mod Stripes
 pub mod TellLaws
 pub mod Updates
+pub mod Words

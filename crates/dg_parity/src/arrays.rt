@@ -115,6 +115,7 @@ impl<R: Rack> Rack for GroupRack<R> {
     ghost use Rattle.dg_parity.specs.Arrays.{grouped_stands, grouped_steady, grouped_tells, grouped_words};
     ghost use Rattle.dg_parity.specs.ArrayLaws.{grouped_after, grouped_both, grouped_none};
     ghost use Rattle.dg_parity.specs.TellLaws.{grouped_tells_told, grouped_told};
+    ghost use Rattle.dg_parity.specs.Words.{words_by};
 
     ghost name = { grouped_name R.Rack };
 
@@ -250,9 +251,11 @@ impl<R: Rack> Rack for GroupRack<R> {
 
     ghost after = { λ a b calls made. grouped_after _ a b calls made };
 
-    ghost tells_told = { λ s q h. grouped_tells_told R.Rack s q h };
+    ghost tells_told = { λ s q h. grouped_tells_told
+        (words_by R.name R.bytes R.counts R.stands R.steady R.tells R.keeps R.disks R.made R.handles) s q h };
 
-    ghost told = { λ s q h stand. grouped_told R.Rack s q h stand };
+    ghost told = { λ s q h stand. grouped_told
+        (words_by R.name R.bytes R.counts R.stands R.steady R.tells R.keeps R.disks R.made R.handles) s q h stand };
 }
 
 impl<R: Rack> Disks for GroupRack<R> {
@@ -261,6 +264,7 @@ impl<R: Rack> Disks for GroupRack<R> {
     ghost use Rattle.dg_parity.specs.ArrayCalls.{mends_of};
     ghost use Rattle.dg_parity.specs.Arrays.{GoesOn, GroupedHandles, group_at, grouped_disks, grouped_rack, is_noted};
     ghost use Rattle.dg_parity.specs.DiskLaws.{grouped_handled, grouped_lost, grouped_single};
+    ghost use Rattle.dg_parity.specs.Words.{words_by};
     ghost use Rattle.dg_parity.specs.Groups.{MostCalls};
 
     /// The headers of the others say so, unless two disks of the group are out.
@@ -300,9 +304,11 @@ impl<R: Rack> Disks for GroupRack<R> {
         Some(self.width)
     }
 
-    ghost handled = { λ a b s j h. grouped_handled R.Rack a b s j h };
+    ghost handled = { λ a b s j h. grouped_handled _ a b s j h };
 
-    ghost single = { λ it x some. grouped_single R.Rack it x };
+    ghost single = { λ it x some. grouped_single
+        (words_by R.name R.bytes R.counts R.stands R.steady R.tells R.keeps R.disks R.made R.handles) it x };
 
-    ghost lost = { λ it x. grouped_lost R.Rack it x };
+    ghost lost = { λ it x. grouped_lost
+        (words_by R.name R.bytes R.counts R.stands R.steady R.tells R.keeps R.disks R.made R.handles) it x };
 }

@@ -93,6 +93,7 @@ impl<R: Rack> Rack for ParityRack<R> {
     ghost use Rattle.dg_parity.specs.ParityRacks.{ParityHandles, ParityMade, parity_bytes, parity_counts, parity_disks, parity_keeps, parity_name};
     ghost use Rattle.dg_parity.specs.ParityRacks.{parity_stands, parity_steady, parity_tells, parity_words};
     ghost use Rattle.dg_parity.specs.ParityLaws.{parity_after, parity_both, parity_none, parity_tells_told, parity_told};
+    ghost use Rattle.dg_parity.specs.Words.{words_by};
 
     ghost name = { parity_name R.Rack };
 
@@ -229,9 +230,11 @@ impl<R: Rack> Rack for ParityRack<R> {
 
     ghost after = { λ a b calls made. parity_after _ R.after a b calls made };
 
-    ghost tells_told = { λ s q h. parity_tells_told R.Rack R.tells_told s q h };
+    ghost tells_told = { λ s q h. parity_tells_told
+        (words_by R.name R.bytes R.counts R.stands R.steady R.tells R.keeps R.disks R.made R.handles) R.tells_told s q h };
 
-    ghost told = { λ s q h stand. parity_told R.Rack R.told s q h stand };
+    ghost told = { λ s q h stand. parity_told
+        (words_by R.name R.bytes R.counts R.stands R.steady R.tells R.keeps R.disks R.made R.handles) R.told s q h stand };
 }
 
 impl<R: Rack> Disks for ParityRack<R> {
@@ -239,6 +242,7 @@ impl<R: Rack> Disks for ParityRack<R> {
     ghost use Rattle.dg_io.specs.DiskAnswers.{DropsDisk, LeavesMembers, MendsDisk, OneDisk};
     ghost use Rattle.dg_parity.specs.ArrayCalls.{MendsBehind, RackGoesOn};
     ghost use Rattle.dg_parity.specs.ParityLaws.{parity_handled, parity_lost, parity_single};
+    ghost use Rattle.dg_parity.specs.Words.{words_by};
     ghost use Rattle.dg_parity.specs.ParityRacks.{IsNoted, ParityHandles, parity_disks, parity_words};
 
     /// The headers of the others say so, unless two disks of the group are out.
@@ -287,9 +291,11 @@ impl<R: Rack> Disks for ParityRack<R> {
         }
     }
 
-    ghost handled = { λ a b s j h. parity_handled R.Rack s j a b h };
+    ghost handled = { λ a b s j h. parity_handled _ s j a b h };
 
-    ghost single = { λ it x some. parity_single R.Rack it x some };
+    ghost single = { λ it x some. parity_single
+        (words_by R.name R.bytes R.counts R.stands R.steady R.tells R.keeps R.disks R.made R.handles) it x some };
 
-    ghost lost = { λ it x. parity_lost R.Rack it x };
+    ghost lost = { λ it x. parity_lost
+        (words_by R.name R.bytes R.counts R.stands R.steady R.tells R.keeps R.disks R.made R.handles) it x };
 }
