@@ -1,6 +1,6 @@
 -- What a member of groups may tell, and which bytes it tells.
 use Rattle.std.proofs.Common.{◌≡◌, ℕ, zero, suc, ◌<◌, inl, inr, Bool, true, false, List, refl, sym, ap, subst, ◌∙◌, arith}
-use Rattle.std.specs.Prelude.{Option, None, Some, IsSome, is_some, nat_lt, not, slice_get, ◌*◌, ◌&&◌, ◌||◌, if◌then◌else◌, length}
+use Rattle.std.specs.Prelude.{Option, None, Some, IsSome, is_some, not, slice_get, ◌*◌, ◌&&◌, ◌||◌, if◌then◌else◌, length}
 use Rattle.std.proofs.lemmas.Bool.{and_parts, cases_Bool, cases_eq, cases_lt, false≢true}
 use Rattle.dg_io.specs.declared.outside.Rack.{Ghosts}
 use Rattle.dg_parity.specs.Arrays.{Grouped, IsGroupOf, IsHeld, group_at, grouped_bytes, grouped_disks, grouped_stands, grouped_tells, is_served, out_of, size_at, size_of, tells_of, told_of, width_of}
