@@ -127,7 +127,7 @@ bytes_by rack group now tell alive = if_is (group.told && all_told rack group no
 pub grouped_member : {R : Type 0} (rack : Ghosts R) (it : Grouped R) → IsHeld rack it.width it.groups it.rack → (s : ℕ) → s < length it.groups
     → grouped_tells rack it (2 * s) → grouped_stands rack it (2 * s) ≡ true
     → grouped_bytes rack it (2 * s)
-      ≡ Some (member_by it.width (size_at it.groups (2 * s)) (made_up it.width (λ j. (grouped_disks rack it).out s j) (λ j. bytes_of (rack.bytes it.rack (disk_number s j)))))
+    ≡ Some (member_by it.width (size_at it.groups (2 * s)) (made_up it.width (λ j. (grouped_disks rack it).out s j) (λ j. bytes_of (rack.bytes it.rack (disk_number s j)))))
 grouped_member rack it held s lt tell stand =
     let found = there it.groups s lt in
     let group = found.0 in
@@ -138,6 +138,6 @@ grouped_member rack it held s lt tell stand =
     let number : group.number ≡ s = (held.kept.each s group found.1).number in
     let outs : (j : ℕ) → is_out group j ≡ out_of (slice_get it.groups s) j = λ j. out_by group j ∙ ap (λ (o : Option Group). out_of o j) (sym found.1) in
     let same : Some (member_by group.disks group.length (made_by rack group it.rack))
-      ≡ Some (member_by it.width (size_at it.groups (2 * s)) (made_up it.width (λ j. (grouped_disks rack it).out s j) (λ j. bytes_of (rack.bytes it.rack (disk_number s j)))))
-      = λ i. Some (member_by (wide i) (size i) (made_up (wide i) (λ j. outs j i) (λ j. bytes_of (rack.bytes it.rack (disk_number (number i) j))))) in
+    ≡ Some (member_by it.width (size_at it.groups (2 * s)) (made_up it.width (λ j. (grouped_disks rack it).out s j) (λ j. bytes_of (rack.bytes it.rack (disk_number s j)))))
+    = λ i. Some (member_by (wide i) (size i) (made_up (wide i) (λ j. outs j i) (λ j. bytes_of (rack.bytes it.rack (disk_number (number i) j))))) in
     ap (told_of rack it.rack) is ∙ bytes_by rack group it.rack own (sym (ap is_served is) ∙ stand) ∙ same
