@@ -1,7 +1,7 @@
 // Racks of four groups of three disks over a rack in memory.
 ghost use Rattle.std.specs.Prelude.{◌≡◌, ◌<◌, ◌*◌, ℕ, false, true, length, IfOk, IfSome, IsSome};
 ghost use Rattle.dg_parity.specs.ArrayCalls.{MendsBehind, RackGoesOn};
-ghost use Rattle.dg_parity.specs.ParityRacks.{IsNoted, parity_bytes, parity_disks, parity_stands};
+ghost use Rattle.dg_parity.specs.ParityRacks.{IsNoted, parity_bytes, parity_stands};
 ghost use Rattle.dg_parity_tests.specs.Shapes.{HasShape};
 
 use dg_io::{Disks, DropAnswer, MemRack, MendAnswer, Rack};
@@ -106,26 +106,27 @@ fn extends<R: Rack>(rack: &mut ParityRack<R>, member: u8, size: u64) -> bool
     }
 }
 
-// A disk goes out. The headers of the others say so, unless the group is lost.
+// A disk goes out. The headers of the others say so, unless the group is lost. Where it was out, the rack is as it was.
 fn drops<R: Rack>(rack: &mut ParityRack<R>, s: u8, j: u8) -> DropAnswer
     requires shape { HasShape R.Rack 4 3 rack.old }
     requires group { s < 4 }
     requires disk { j < 3 }
     ensures shape { HasShape R.Rack 4 3 rack.new }
     ensures noted { result ≡ DropAnswer.Dropped false → IsNoted rack.new (2 * s) }
+    ensures already { result ≡ DropAnswer.Already → rack.new ≡ rack.old }
     ensures goes_on { RackGoesOn R.Rack rack.old rack.new }
 {
     rack.drop_disk(s, j)
 }
 
-// A disk comes back, in a bounded number of calls. Where it wasn't out, the disks are as they were.
+// A disk comes back, in a bounded number of calls. Where it wasn't out, the rack is as it was.
 fn mends<R: Rack>(rack: &mut ParityRack<R>, s: u8, j: u8) -> MendAnswer
     requires shape { HasShape R.Rack 4 3 rack.old }
     requires group { s < 4 }
     requires disk { j < 3 }
     ensures shape { HasShape R.Rack 4 3 rack.new }
     ensures noted { (c : ℕ) → result ≡ MendAnswer.Mended c → IsNoted rack.new (2 * s) }
-    ensures idle { result ≡ MendAnswer.NotOut → parity_disks R.Rack rack.new ≡ parity_disks R.Rack rack.old }
+    ensures not_out { result ≡ MendAnswer.NotOut → rack.new ≡ rack.old }
     ensures goes_on { RackGoesOn R.Rack rack.old rack.new }
     ensures calls { MendsBehind R.Rack rack.old rack.new s }
 {
