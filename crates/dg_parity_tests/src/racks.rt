@@ -5,7 +5,7 @@ ghost use Rattle.dg_parity.specs.ParityRacks.{IsNoted, parity_bytes, parity_stan
 ghost use Rattle.dg_parity_tests.specs.Shapes.{HasShape};
 
 use dg_io::{Disks, DropAnswer, MemRack, MendAnswer, Rack};
-use dg_parity::ParityRack;
+use dg_parity::{GroupRack, ParityRack};
 use std::alloc::Global;
 use std::test::Fail;
 
@@ -15,6 +15,14 @@ const SIZE: u64 = 69993;
 // The rack behind, in memory.
 fn behind(alloc: Global) -> Result<MemRack, Fail> {
     Ok(MemRack::new(alloc, 64, 512 * 70, Vec::from_slice(alloc, &[])?)?)
+}
+
+// A rack of groups gives the rack behind back, as it was.
+fn given_back<R: Rack + Drop>(alloc: Global, behind: R) -> Result<R, Fail>
+    ensures { IfOk result (λ it. it ≡ behind) }
+{
+    let grouped = GroupRack::new(alloc, behind, 4, 3)?;
+    Ok(grouped.into_rack())
 }
 
 // A rack whose groups weren't made yet.
@@ -183,7 +191,7 @@ fn a_longer_member(rt: HostRuntime) -> Result<(), Fail> {
 
 #[test]
 fn members_that_are_not_there(rt: HostRuntime) -> Result<(), Fail> {
-    let mut rack = made(rt.alloc(), behind(rt.alloc())?)?;
+    let mut rack = made(rt.alloc(), given_back(rt.alloc(), behind(rt.alloc())?)?)?;
     assert!(rt; rack.disks() == Some(3));
     assert!(rt; long(&mut rack, 0) == None);
     assert!(rt; drops(&mut rack, 0, 0) == DropAnswer::Already);
