@@ -210,6 +210,12 @@ abbrev pub group-or : Group → Option Group → Group
 group-or d None = d
 group-or d (Some g) = g
 
+-- the same element again
+pub set-back : (xs : List Group) (i : ℕ) (w : Group) → slice_get xs i ≡ Some w → set xs i w ≡ xs
+set-back [] i w h = refl
+set-back (x ∷ xs) zero w h = ap (λ (k : Group). k ∷ xs) (sym (ap (group-or w) h))
+set-back (x ∷ xs) (suc i) w h = ap (λ (l : List Group). x ∷ l) (set-back xs i w h)
+
 eqb-true : (x y : ℕ) → (x == y) ≡ true → x ≡ y
 eqb-true x y e = grind (arith, nat_tests)
 

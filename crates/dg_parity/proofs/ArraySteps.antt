@@ -21,7 +21,7 @@ use Rattle.dg_parity.specs.declared.groups.Group.{Group}
 use Rattle.dg_parity.specs.declared.tallies.Tally.{Tally}
 use Rattle.dg_parity.proofs.ArrayLemmas.{group-odd, group-or, group-own, lt-true}
 use Rattle.dg_parity.proofs.MemberLemmas.{member-length}
-use Rattle.dg_parity.specs.DiskLaws.{member_group}
+use Rattle.dg_parity.specs.DiskLaws.{member_group, members_left}
 use Rattle.dg_parity.specs.TellLaws.{grouped_told, both_true, each_told}
 
 -- one more call, which failed or not
@@ -351,8 +351,8 @@ module _ {S : Type 0} (rack : Ghosts S) (s j n : ℕ) (old new : List Group) (be
   abbrev rack-is : Grouped S
   rack-is = record { rack = now; width = n; groups = new; tally = tally }
 
-  pub members_on : LeavesMembers (grouped_rack rack) s rack-was rack-is
-  members_on = record {
+  words_on : LeavesMembers (grouped_words rack) s rack-was rack-is
+  words_on = record {
     same_rack = steps.same_rack;
     steady_on = (λ h. h, λ h. h);
     counts_stay = refl;
@@ -362,6 +362,9 @@ module _ {S : Type 0} (rack : Ghosts S) (s j n : ℕ) (old new : List Group) (be
     told_before = steps.may;
     keeps_on = λ kept h. h;
   }
+
+  pub members_on : LeavesMembers (grouped_rack rack) s rack-was rack-is
+  members_on = members_left rack s rack-was rack-is words_on
 
   still-made : (t : ℕ) → is_unmade (slice_get old t) ≡ false → is_unmade (slice_get new t) ≡ false
   still-made t made = elim (cases_Bool (is_unmade (slice_get new t))) [
@@ -374,7 +377,7 @@ module _ {S : Type 0} (rack : Ghosts S) (s j n : ℕ) (old new : List Group) (be
     shaped = record { width = refl; groups = steps.count };
     tally = refl;
     one = steps.one n;
-    leaves = members_on;
+    leaves = words_on;
     behind = steps.behind n held.widths;
     unmade = λ t lt. still-made t;
   }

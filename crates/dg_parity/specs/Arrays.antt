@@ -207,7 +207,7 @@ grouped_keeps rack it kept = ⊥
 abbrev pub grouped_disks : {R : Type 0} → Ghosts R → Grouped R → DiskStates
 grouped_disks rack it = states_in rack it.width it.groups it.rack
 
--- the words together. What may have become of it by just some calls is what these leave.
+-- The words together, but for what calls leave of it, which is told over these.
 abbrev pub grouped_words : {R : Type 0} → Ghosts R → Ghosts (Grouped R)
 grouped_words rack = record {
   name = grouped_name rack;
@@ -219,6 +219,7 @@ grouped_words rack = record {
   keeps = grouped_keeps rack;
   disks = grouped_disks rack;
   made = λ old calls new. Unit {0};
+  handles = λ old s j new. ⊥;
 }
 
 -- how many groups it has, and how many disks each of them, is for good
@@ -249,6 +250,15 @@ pub record GroupedMade {R : Type 0} (rack : Ghosts R) (old : Grouped R) (made : 
   pub anew : (s j : ℕ) → is_unmade (slice_get old.groups s) ≡ true → is_unmade (slice_get new.groups s) ≡ false → (grouped_disks rack new).out s j ≡ true
       → Rose ((grouped_disks rack old).faults s j) ((grouped_disks rack new).faults s j)
 
+-- What a call on disk j of group s leaves of it: its own counts stay, and a group that was made doesn't become one that wasn't.
+pub record GroupedHandles {R : Type 0} (rack : Ghosts R) (old : Grouped R) (s j : ℕ) (new : Grouped R) : Type 0 where
+  pub shaped : IsShaped old new
+  pub tally : new.tally ≡ old.tally
+  pub one : OneDisk s j (grouped_disks rack old) (grouped_disks rack new)
+  pub leaves : LeavesMembers (grouped_words rack) s old new
+  pub behind : LeavesBehind rack (length old.groups) old.width old.rack new.rack
+  pub unmade : (t : ℕ) → t < length old.groups → is_unmade (slice_get old.groups t) ≡ false → is_unmade (slice_get new.groups t) ≡ false
+
 -- the words of a rack of groups, all of them
 abbrev pub grouped_rack : {R : Type 0} → Ghosts R → Ghosts (Grouped R)
 grouped_rack rack = record {
@@ -261,16 +271,8 @@ grouped_rack rack = record {
   keeps = grouped_keeps rack;
   disks = grouped_disks rack;
   made = GroupedMade rack;
+  handles = GroupedHandles rack;
 }
-
--- What a call on disk j of group s leaves of it: its own counts stay, and a group that was made doesn't become one that wasn't.
-pub record GroupedHandles {R : Type 0} (rack : Ghosts R) (old : Grouped R) (s j : ℕ) (new : Grouped R) : Type 0 where
-  pub shaped : IsShaped old new
-  pub tally : new.tally ≡ old.tally
-  pub one : OneDisk s j (grouped_disks rack old) (grouped_disks rack new)
-  pub leaves : LeavesMembers (grouped_rack rack) s old new
-  pub behind : LeavesBehind rack (length old.groups) old.width old.rack new.rack
-  pub unmade : (t : ℕ) → t < length old.groups → is_unmade (slice_get old.groups t) ≡ false → is_unmade (slice_get new.groups t) ≡ false
 
 -- what holds of it between calls
 pub record IsHeld {R : Type 0} (rack : Ghosts R) (width : ℕ) (groups : List Group) (now : R) : Type 0 where

@@ -4,9 +4,9 @@ use Rattle.std.specs.Prelude.{Option, None, Some, slice_get, nat_le, nat_lt, not
 use Rattle.std.proofs.lemmas.Bool.{cases_eq, false≢true}
 use Rattle.std.proofs.lemmas.Bool.Decides.{nat_tests}
 use Rattle.std.proofs.lemmas.List.Sums.{sum_by-cons}
-use Rattle.dg_io.specs.DiskAnswers.{count_upto, is_group_lost}
+use Rattle.dg_io.specs.DiskAnswers.{HandlesAs, LeavesMembers, count_upto, is_group_lost}
 use Rattle.dg_io.specs.declared.outside.Rack.{Ghosts}
-use Rattle.dg_parity.specs.Arrays.{Grouped, IsHeld, group_at, grouped_disks, grouped_stands, is_served, out_of, width_of}
+use Rattle.dg_parity.specs.Arrays.{Grouped, GroupedHandles, IsHeld, group_at, grouped_disks, grouped_rack, grouped_stands, grouped_words, is_served, out_of, width_of}
 use Rattle.dg_parity.specs.Groups.{is_lost, is_out}
 use Rattle.dg_parity.specs.declared.groups.Group.{Group}
 
@@ -52,13 +52,13 @@ past_end [] j le = refl
 past_end (x ∷ xs) zero le = absurd (omega (arith, le))
 past_end (x ∷ xs) (suc j) le = past_end xs j (omega (arith, le))
 
-lt_true : (j n : ℕ) → j < n → nat_lt j n ≡ true
+pub lt_true : (j n : ℕ) → j < n → nat_lt j n ≡ true
 lt_true j n lt = grind (arith, nat_tests)
 
 lt_false : (j n : ℕ) → n ≤ j → nat_lt j n ≡ false
 lt_false j n le = grind (arith, nat_tests)
 
-out_past : (group : Group) (j : ℕ) → group.disks ≤ j → out_of (Some group) j ≡ false
+pub out_past : (group : Group) (j : ℕ) → group.disks ≤ j → out_of (Some group) j ≡ false
 out_past group j le = ap (λ (b : Bool). b && is_out group j) (lt_false j group.disks le)
 
 -- a group is lost where two of its disks are out
@@ -112,7 +112,7 @@ not_true : (b : Bool) → not b ≡ false → b ≡ true
 not_true true h = refl
 not_true false h = absurd (false≢true (sym h))
 
-there : (groups : List Group) (s : ℕ) → s < length groups → (group : Group) × (slice_get groups s ≡ Some group)
+pub there : (groups : List Group) (s : ℕ) → s < length groups → (group : Group) × (slice_get groups s ≡ Some group)
 there [] s lt = absurd (omega (arith, lt))
 there (group ∷ groups) zero lt = (group, refl)
 there (group ∷ groups) (suc s) lt = there groups s (omega (arith, lt))
@@ -126,3 +126,20 @@ group_lost rack it held s lt down =
     let lost : is_lost found.0 ≡ true = not_true (is_lost found.0) (sym (ap is_served (member_group it.groups s ∙ found.1)) ∙ down) in
     ap (λ (o : Option Group). nat_le 2 (count_upto (out_of o) it.width)) found.1
     ∙ ap (λ (n : ℕ). nat_le 2 (count_upto (out_of (Some found.0)) n)) (sym wide) ∙ sym (lost_is found.0) ∙ lost
+
+-- ---- what a call on a disk leaves
+
+pub members_left : {R : Type 0} (rack : Ghosts R) (s : ℕ) (a b : Grouped R) → LeavesMembers (grouped_words rack) s a b → LeavesMembers (grouped_rack rack) s a b
+members_left rack s a b leaves = record {
+  same_rack = leaves.same_rack;
+  steady_on = leaves.steady_on;
+  counts_stay = leaves.counts_stay;
+  others_stand = leaves.others_stand;
+  stands_on = leaves.stands_on;
+  same = leaves.same;
+  told_before = leaves.told_before;
+  keeps_on = leaves.keeps_on;
+}
+
+pub grouped_handled : {R : Type 0} (rack : Ghosts R) (a b : Grouped R) (s j : ℕ) → GroupedHandles rack a s j b → HandlesAs (grouped_rack rack) s j a b
+grouped_handled rack a b s j handles = record { one = handles.one; leaves = members_left rack s a b handles.leaves }

@@ -2,7 +2,7 @@
 use Rattle.std.specs.Prelude.{◌≡◌, ◌+◌, ◌*◌, ◌++◌, ℕ, true, false, List, [], Some, Result, IfSome, IsSome}
 use Rattle.std.proofs.Common.{◌⊎◌, ◌∙◌, ap, inl, inr, refl}
 use Rattle.std.proofs.lemmas.Bool.{false≢true}
-use Rattle.dg_io.specs.DiskAnswers.{LeavesMembers, is_group_lost}
+use Rattle.dg_io.specs.DiskAnswers.{HandlesAs, LeavesMembers, is_group_lost}
 use Rattle.dg_io.specs.Disks.{AreSameGroups, no_disks}
 use Rattle.dg_io.specs.Kept.{HasAnother, IsNothing, Kept, KeepsRest}
 use Rattle.dg_io.specs.MadeLaws.{disks_same, same_told}
@@ -13,8 +13,8 @@ use Rattle.dg_io.specs.RackWords.{After, Leaves}
 use Rattle.dg_io.specs.declared.outside.Rack.{Ghosts}
 use Rattle.dg_parity.specs.ArrayLaws.{grouped_both, grouped_none}
 use Rattle.dg_parity.specs.Arrays.{Grouped, GroupedHandles, GroupedMade, grouped_rack, grouped_words}
-use Rattle.dg_parity.specs.DiskLaws.{grouped_lost, grouped_single}
-use Rattle.dg_parity.specs.ParityRacks.{ParityHandles, ParityMade, made_by, parity_bytes, parity_disks, parity_keeps, parity_stands, parity_tells, parity_words}
+use Rattle.dg_parity.specs.DiskLaws.{grouped_handled, grouped_lost, grouped_single}
+use Rattle.dg_parity.specs.ParityRacks.{ParityHandles, ParityMade, handled_by, made_by, parity_bytes, parity_disks, parity_keeps, parity_stands, parity_tells, parity_words}
 use Rattle.dg_parity.specs.TellLaws.{grouped_tells_told, grouped_told}
 use Rattle.dg_parity.specs.declared.parity_racks.ParityRack.{ParityRack}
 use Rattle.dg_parity.specs.declared.parity_racks.ParityRack.TheVariants.{Plain, OfGroups}
@@ -151,6 +151,14 @@ module _ {R : Type 0} (rack : Ghosts R) (s j : ℕ) where
 
   pub grouped_handles : (a b : Grouped R) → GroupedHandles rack a s j b → ParityHandles rack (OfGroups a) s j (OfGroups b)
   grouped_handles a b handles = record { by = handles }
+
+  handled_of : (a b : ParityRack R) → handled_by rack a s j b → HandlesAs (parity_words rack) s j a b
+  handled_of (Plain a) b by = absurd by
+  handled_of (OfGroups a) (Plain b) by = absurd by
+  handled_of (OfGroups a) (OfGroups b) by = record { one = by.one; leaves = grouped_members a b (grouped_handled rack a b s j by).leaves }
+
+  pub parity_handled : (a b : ParityRack R) → ParityHandles rack a s j b → HandlesAs (parity_words rack) s j a b
+  parity_handled a b handles = handled_of a b handles.by
 
 -- ---- the laws of a rack with disks
 

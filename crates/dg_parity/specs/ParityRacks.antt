@@ -48,10 +48,9 @@ made_by rack (OfGroups old) calls (OfGroups new) = GroupedMade rack old calls ne
 pub record ParityMade {R : Type 0} (rack : Ghosts R) (old : ParityRack R) (calls : List RackCall) (new : ParityRack R) : Type 0 where
   pub by : made_by rack old calls new
 
--- it stays plain or of groups: what a call on disk j of group s leaves of the groups. A plain one is left as it was
+-- it stays of groups: what a call on disk j of group s leaves of these. A plain one has no disks
 abbrev pub handled_by : {R : Type 0} → Ghosts R → ParityRack R → ℕ → ℕ → ParityRack R → Type 0
-handled_by rack (Plain old) s j (Plain new) = new ≡ old
-handled_by rack (Plain old) s j (OfGroups new) = ⊥
+handled_by rack (Plain old) s j new = ⊥
 handled_by rack (OfGroups old) s j (Plain new) = ⊥
 handled_by rack (OfGroups old) s j (OfGroups new) = GroupedHandles rack old s j new
 
@@ -69,6 +68,7 @@ parity_words rack = record {
   keeps = parity_keeps rack;
   disks = parity_disks rack;
   made = ParityMade rack;
+  handles = ParityHandles rack;
 }
 
 -- fewer than two disks of the member's group are out. Of a plain rack this says nothing

@@ -1,12 +1,13 @@
 -- What a member of groups may tell, and which bytes it tells.
-use Rattle.std.proofs.Common.{◌≡◌, ℕ, zero, suc, ◌<◌, inl, inr, Bool, true, false, List, refl, sym, ap, ◌∙◌, arith}
-use Rattle.std.specs.Prelude.{Option, None, Some, IsSome, is_some, not, ◌&&◌, ◌||◌, if◌then◌else◌}
-use Rattle.std.proofs.lemmas.Bool.{and_parts, cases_Bool, cases_eq, false≢true}
+use Rattle.std.proofs.Common.{◌≡◌, ℕ, zero, suc, ◌<◌, inl, inr, Bool, true, false, List, refl, sym, ap, subst, ◌∙◌, arith}
+use Rattle.std.specs.Prelude.{Option, None, Some, IsSome, is_some, not, slice_get, ◌*◌, ◌&&◌, ◌||◌, if◌then◌else◌, length}
+use Rattle.std.proofs.lemmas.Bool.{and_parts, cases_Bool, cases_eq, cases_lt, false≢true}
 use Rattle.dg_io.specs.declared.outside.Rack.{Ghosts}
-use Rattle.dg_parity.specs.Arrays.{Grouped, IsGroupOf, group_at, grouped_bytes, grouped_stands, grouped_tells, is_served, tells_of, told_of}
-use Rattle.dg_parity.specs.Groups.{AllTold, disk_number, is_lost, is_sure, may_tell}
-use Rattle.dg_parity.specs.Kept.{all_told, all_upto, made_by}
-use Rattle.dg_parity.specs.Stripes.{member_by}
+use Rattle.dg_parity.specs.Arrays.{Grouped, IsGroupOf, IsHeld, group_at, grouped_bytes, grouped_disks, grouped_stands, grouped_tells, is_served, out_of, size_at, size_of, tells_of, told_of, width_of}
+use Rattle.dg_parity.specs.DiskLaws.{lt_true, member_group, out_past, there}
+use Rattle.dg_parity.specs.Groups.{AllTold, bytes_of, disk_number, is_lost, is_out, is_sure, may_tell}
+use Rattle.dg_parity.specs.Kept.{all_told, all_upto, bytes_in, made_by}
+use Rattle.dg_parity.specs.Stripes.{made_up, member_by}
 use Rattle.dg_parity.specs.declared.groups.Group.{Group}
 
 pub upto_each : (p : ℕ → Bool) (n j : ℕ) → all_upto p n ≡ true → j < n → p j ≡ true
@@ -104,3 +105,39 @@ grouped_tells_told rack it q some = told_tells rack it.rack (group_at it.groups 
 -- it tells the bytes of such a member while that stands
 pub grouped_told : {R : Type 0} (rack : Ghosts R) (it : Grouped R) (q : ℕ) → grouped_tells rack it q → grouped_stands rack it q ≡ true → IsSome (grouped_bytes rack it q)
 grouped_told rack it q tell stand = tells_told rack it.rack (group_at it.groups q) tell stand
+
+-- ---- the bytes of a member, by the disks of its group
+
+if_is : (b : Bool) (x : List ℕ) → b ≡ true → (if b then Some x else None) ≡ Some x
+if_is true x h = refl
+if_is false x h = absurd (false≢true h)
+
+out_by : (group : Group) (j : ℕ) → is_out group j ≡ out_of (Some group) j
+out_by group j = elim (cases_lt j group.disks) [
+  | inl lt ↦ sym (ap (λ (b : Bool). b && is_out group j) (lt_true j group.disks lt))
+  | inr le ↦ group.beyond j le ∙ sym (out_past group j le)
+]
+
+bytes_by : {S : Type 0} (rack : Ghosts S) (group : Group) (now : S) → tells_of rack now (Some group) → is_served (Some group) ≡ true
+    → bytes_in rack group now ≡ Some (member_by group.disks group.length (made_by rack group now))
+bytes_by rack group now tell alive = if_is (group.told && all_told rack group now) (member_by group.disks group.length (made_by rack group now))
+    (both_true group.told (all_told rack group now) (may_told group tell.1 (alive_of (is_lost group) alive)) (each_told rack group now tell.0))
+
+-- A member that stands, and whose group tells, has the bytes that its disks give, one that is out by the others.
+pub grouped_member : {R : Type 0} (rack : Ghosts R) (it : Grouped R) → IsHeld rack it.width it.groups it.rack → (s : ℕ) → s < length it.groups
+    → grouped_tells rack it (2 * s) → grouped_stands rack it (2 * s) ≡ true
+    → grouped_bytes rack it (2 * s)
+    ≡ Some (member_by it.width (size_at it.groups (2 * s)) (made_up it.width (λ j. (grouped_disks rack it).out s j) (λ j. bytes_of (rack.bytes it.rack (disk_number s j)))))
+grouped_member rack it held s lt tell stand =
+    let found = there it.groups s lt in
+    let group = found.0 in
+    let is : group_at it.groups (2 * s) ≡ Some group = member_group it.groups s ∙ found.1 in
+    let own : tells_of rack it.rack (Some group) = subst (λ (o : Option Group). tells_of rack it.rack o) is tell in
+    let wide : group.disks ≡ it.width = sym (ap width_of found.1) ∙ held.widths s lt in
+    let size : group.length ≡ size_at it.groups (2 * s) = sym (ap size_of is) in
+    let number : group.number ≡ s = (held.kept.each s group found.1).number in
+    let outs : (j : ℕ) → is_out group j ≡ out_of (slice_get it.groups s) j = λ j. out_by group j ∙ ap (λ (o : Option Group). out_of o j) (sym found.1) in
+    let same : Some (member_by group.disks group.length (made_by rack group it.rack))
+    ≡ Some (member_by it.width (size_at it.groups (2 * s)) (made_up it.width (λ j. (grouped_disks rack it).out s j) (λ j. bytes_of (rack.bytes it.rack (disk_number s j)))))
+    = λ i. Some (member_by (wide i) (size i) (made_up (wide i) (λ j. outs j i) (λ j. bytes_of (rack.bytes it.rack (disk_number (number i) j))))) in
+    ap (told_of rack it.rack) is ∙ bytes_by rack group it.rack own (sym (ap is_served is) ∙ stand) ∙ same

@@ -8,8 +8,8 @@ use Rattle.dg_io.specs.declared.outside.Rack.{Ghosts}
 
 -- what a rack means, by each word of it
 abbrev pub words_by : {S : Type 0} → (S → ℕ) → (S → ℕ → Option (List ℕ)) → (S → Counts) → (S → ℕ → Bool) → (S → Type 0) → (S → ℕ → Type 0) → (S → Option Kept → Type 0) → (S → DiskStates)
-    → (S → List RackCall → S → Type 0) → Ghosts S
-words_by name bytes counts stands steady tells keeps disks made = record {
+    → (S → List RackCall → S → Type 0) → (S → ℕ → ℕ → S → Type 0) → Ghosts S
+words_by name bytes counts stands steady tells keeps disks made handles = record {
   name = name;
   bytes = bytes;
   counts = counts;
@@ -19,4 +19,5 @@ words_by name bytes counts stands steady tells keeps disks made = record {
   keeps = keeps;
   disks = disks;
   made = made;
+  handles = handles;
 }

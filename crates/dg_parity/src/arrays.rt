@@ -72,6 +72,13 @@ impl<R: Rack> GroupRack<R> {
     ghost use Rattle.std.specs.Prelude.{◌≡◌};
     ghost use Rattle.dg_parity.specs.Arrays.{HasNoCalls, IsHeld};
 
+    /// The rack behind.
+    pub fn into_rack(self) -> R
+        ensures { result ≡ self.rack }
+    {
+        self.rack
+    }
+
     /// A rack of the groups that an opening found. It takes no memory.
     pub(crate) fn over(rack: R, found: FoundGroups) -> GroupRack<R>
         requires held { IsHeld R.Rack found.width found.groups.items rack }
@@ -104,7 +111,8 @@ impl<R: Rack> Rack for GroupRack<R> {
     ghost use Rattle.dg_parity.specs.ArrayCalls.{quiet_reads_of, quiet_writes_of, reads_of, writes_of, LeastOf, LeastWithHeaders};
     ghost use Rattle.dg_parity.specs.Groups.{MostCalls};
     ghost use Rattle.dg_parity.specs.Arrays.{GoesOn, IsShaped, NoneFell, group_at, is_fallen, is_noted, serves, size_at};
-    ghost use Rattle.dg_parity.specs.Arrays.{GroupedMade, grouped_bytes, grouped_counts, grouped_disks, grouped_keeps, grouped_name, grouped_stands, grouped_steady, grouped_tells, grouped_words};
+    ghost use Rattle.dg_parity.specs.Arrays.{GroupedHandles, GroupedMade, grouped_bytes, grouped_counts, grouped_disks, grouped_keeps, grouped_name};
+    ghost use Rattle.dg_parity.specs.Arrays.{grouped_stands, grouped_steady, grouped_tells, grouped_words};
     ghost use Rattle.dg_parity.specs.ArrayLaws.{grouped_after, grouped_both, grouped_none};
     ghost use Rattle.dg_parity.specs.TellLaws.{grouped_tells_told, grouped_told};
     ghost use Rattle.dg_parity.specs.Words.{words_by};
@@ -126,6 +134,8 @@ impl<R: Rack> Rack for GroupRack<R> {
     ghost disks = { grouped_disks R.Rack };
 
     ghost made = { GroupedMade R.Rack };
+
+    ghost handles = { GroupedHandles R.Rack };
 
     /// It fails exactly where two disks of the group are out at its end.
     fn blank(&mut self, member: u8, length: u64) -> Result<(), Failed>
@@ -241,9 +251,11 @@ impl<R: Rack> Rack for GroupRack<R> {
 
     ghost after = { λ a b calls made. grouped_after _ a b calls made };
 
-    ghost tells_told = { λ s q h. grouped_tells_told (words_by R.name R.bytes R.counts R.stands R.steady R.tells R.keeps R.disks R.made) s q h };
+    ghost tells_told = { λ s q h. grouped_tells_told
+        (words_by R.name R.bytes R.counts R.stands R.steady R.tells R.keeps R.disks R.made R.handles) s q h };
 
-    ghost told = { λ s q h stand. grouped_told (words_by R.name R.bytes R.counts R.stands R.steady R.tells R.keeps R.disks R.made) s q h stand };
+    ghost told = { λ s q h stand. grouped_told
+        (words_by R.name R.bytes R.counts R.stands R.steady R.tells R.keeps R.disks R.made R.handles) s q h stand };
 }
 
 impl<R: Rack> Disks for GroupRack<R> {
@@ -251,11 +263,9 @@ impl<R: Rack> Disks for GroupRack<R> {
     ghost use Rattle.dg_io.specs.DiskAnswers.{DropsDisk, LeavesMembers, MendsDisk, OneDisk};
     ghost use Rattle.dg_parity.specs.ArrayCalls.{mends_of};
     ghost use Rattle.dg_parity.specs.Arrays.{GoesOn, GroupedHandles, group_at, grouped_disks, grouped_rack, is_noted};
-    ghost use Rattle.dg_parity.specs.DiskLaws.{grouped_lost, grouped_single};
+    ghost use Rattle.dg_parity.specs.DiskLaws.{grouped_handled, grouped_lost, grouped_single};
     ghost use Rattle.dg_parity.specs.Words.{words_by};
     ghost use Rattle.dg_parity.specs.Groups.{MostCalls};
-
-    ghost handles = { GroupedHandles R.Rack };
 
     /// The headers of the others say so, unless two disks of the group are out.
     fn drop_disk(&mut self, s: u8, j: u8) -> DropAnswer
@@ -263,6 +273,7 @@ impl<R: Rack> Disks for GroupRack<R> {
         ensures plain { (result ≡ DropAnswer.Plain) ↔ ((grouped_disks R.Rack self.old).width ≡ None) }
         ensures idle { (grouped_disks R.Rack self.old).width ≡ None → self.new ≡ self.old }
         ensures answer { IfSome (grouped_disks R.Rack self.old).width (λ n. DropsDisk n s j (grouped_disks R.Rack self.old) (grouped_disks R.Rack self.new) result) }
+        ensures already { result ≡ DropAnswer.Already → self.new ≡ self.old }
         ensures disks { OneDisk s j (grouped_disks R.Rack self.old) (grouped_disks R.Rack self.new) }
         ensures leaves { LeavesMembers (grouped_rack R.Rack) s self.old self.new }
         ensures handles { IsSome (grouped_disks R.Rack self.old).width → GroupedHandles R.Rack self.old s j self.new }
@@ -278,6 +289,7 @@ impl<R: Rack> Disks for GroupRack<R> {
         ensures plain { (result ≡ MendAnswer.Plain) ↔ ((grouped_disks R.Rack self.old).width ≡ None) }
         ensures idle { (grouped_disks R.Rack self.old).width ≡ None → self.new ≡ self.old }
         ensures answer { IfSome (grouped_disks R.Rack self.old).width (λ n. MendsDisk n s j (grouped_disks R.Rack self.old) (grouped_disks R.Rack self.new) result) }
+        ensures not_out { result ≡ MendAnswer.NotOut → self.new ≡ self.old }
         ensures disks { OneDisk s j (grouped_disks R.Rack self.old) (grouped_disks R.Rack self.new) }
         ensures leaves { LeavesMembers (grouped_rack R.Rack) s self.old self.new }
         ensures handles { IsSome (grouped_disks R.Rack self.old).width → GroupedHandles R.Rack self.old s j self.new }
@@ -292,7 +304,11 @@ impl<R: Rack> Disks for GroupRack<R> {
         Some(self.width)
     }
 
-    ghost single = { λ it x some. grouped_single (words_by R.name R.bytes R.counts R.stands R.steady R.tells R.keeps R.disks R.made) it x };
+    ghost handled = { λ a b s j h. grouped_handled _ a b s j h };
 
-    ghost lost = { λ it x. grouped_lost (words_by R.name R.bytes R.counts R.stands R.steady R.tells R.keeps R.disks R.made) it x };
+    ghost single = { λ it x some. grouped_single
+        (words_by R.name R.bytes R.counts R.stands R.steady R.tells R.keeps R.disks R.made R.handles) it x };
+
+    ghost lost = { λ it x. grouped_lost
+        (words_by R.name R.bytes R.counts R.stands R.steady R.tells R.keeps R.disks R.made R.handles) it x };
 }

@@ -187,6 +187,7 @@ pub(crate) fn drop_at<R: Rack>(groups: &mut Vec<Group>, rack: &mut R, s: u8, j: 
     ensures steps { StepsOn R.Rack s j groups.old.items groups.new.items rack.old rack.new }
     ensures goes_on { GoesOn R.Rack groups.old.items groups.new.items rack.old rack.new }
     ensures noted { result ≡ DropAnswer.Dropped false → is_noted (slice_get groups.new.items s) ≡ true }
+    ensures already { result ≡ DropAnswer.Already → (groups.new.items ≡ groups.old.items) × (rack.new ≡ rack.old) }
     ensures answer { DropsDisk (width_at groups.old.items s) s j
         (states_in R.Rack (width_at groups.old.items s) groups.old.items rack.old)
         (states_in R.Rack (width_at groups.old.items s) groups.new.items rack.new) result }
@@ -206,6 +207,7 @@ pub(crate) fn mend_at<R: Rack>(groups: &mut Vec<Group>, rack: &mut R, s: u8, j: 
     ensures steps { StepsOn R.Rack s j groups.old.items groups.new.items rack.old rack.new }
     ensures goes_on { GoesOn R.Rack groups.old.items groups.new.items rack.old rack.new }
     ensures noted { (c : ℕ) → result ≡ MendAnswer.Mended c → is_noted (slice_get groups.new.items s) ≡ true }
+    ensures not_out { result ≡ MendAnswer.NotOut → (groups.new.items ≡ groups.old.items) × (rack.new ≡ rack.old) }
     ensures calls { MostCalls R.Rack (mends_of (slice_get groups.old.items s)) rack.old rack.new }
     ensures answer { MendsDisk (width_at groups.old.items s) s j
         (states_in R.Rack (width_at groups.old.items s) groups.old.items rack.old)

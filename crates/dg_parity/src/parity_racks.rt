@@ -90,7 +90,8 @@ impl<R: Rack> Rack for ParityRack<R> {
     ghost use Rattle.dg_io.specs.Told.{Told, IsSame, IsZeros, Measures, IsEmpty, Reads, Patched, Torn, FitsIn, Extended, KeepsFront, IsHeader, OldOrNew};
     ghost use Rattle.dg_parity.specs.ArrayCalls.{RackGoesOn, ReadsBehind, ReadsQuietly, WritesBehind, WritesLeast, WritesQuietly, WritesWithHeaders};
     ghost use Rattle.dg_parity.specs.ParityRacks.{IsFallen, IsNoted, IsPast, IsServed, IsShort, IsUnserved};
-    ghost use Rattle.dg_parity.specs.ParityRacks.{ParityMade, parity_bytes, parity_counts, parity_disks, parity_keeps, parity_name, parity_stands, parity_steady, parity_tells, parity_words};
+    ghost use Rattle.dg_parity.specs.ParityRacks.{ParityHandles, ParityMade, parity_bytes, parity_counts, parity_disks, parity_keeps, parity_name};
+    ghost use Rattle.dg_parity.specs.ParityRacks.{parity_stands, parity_steady, parity_tells, parity_words};
     ghost use Rattle.dg_parity.specs.ParityLaws.{parity_after, parity_both, parity_none, parity_tells_told, parity_told};
     ghost use Rattle.dg_parity.specs.Words.{words_by};
 
@@ -111,6 +112,8 @@ impl<R: Rack> Rack for ParityRack<R> {
     ghost disks = { parity_disks R.Rack };
 
     ghost made = { ParityMade R.Rack };
+
+    ghost handles = { ParityHandles R.Rack };
 
     /// One of groups fails exactly where two disks of the group are out at its end.
     fn blank(&mut self, member: u8, length: u64) -> Result<(), Failed>
@@ -228,21 +231,19 @@ impl<R: Rack> Rack for ParityRack<R> {
     ghost after = { λ a b calls made. parity_after _ R.after a b calls made };
 
     ghost tells_told = { λ s q h. parity_tells_told
-        (words_by R.name R.bytes R.counts R.stands R.steady R.tells R.keeps R.disks R.made) R.tells_told s q h };
+        (words_by R.name R.bytes R.counts R.stands R.steady R.tells R.keeps R.disks R.made R.handles) R.tells_told s q h };
 
     ghost told = { λ s q h stand. parity_told
-        (words_by R.name R.bytes R.counts R.stands R.steady R.tells R.keeps R.disks R.made) R.told s q h stand };
+        (words_by R.name R.bytes R.counts R.stands R.steady R.tells R.keeps R.disks R.made R.handles) R.told s q h stand };
 }
 
 impl<R: Rack> Disks for ParityRack<R> {
     ghost use Rattle.std.specs.Prelude.{◌≡◌, ◌↔◌, ◌<◌, ◌*◌, ℕ, None, IfSome, IsSome, false};
     ghost use Rattle.dg_io.specs.DiskAnswers.{DropsDisk, LeavesMembers, MendsDisk, OneDisk};
     ghost use Rattle.dg_parity.specs.ArrayCalls.{MendsBehind, RackGoesOn};
-    ghost use Rattle.dg_parity.specs.ParityLaws.{parity_lost, parity_single};
+    ghost use Rattle.dg_parity.specs.ParityLaws.{parity_handled, parity_lost, parity_single};
     ghost use Rattle.dg_parity.specs.Words.{words_by};
     ghost use Rattle.dg_parity.specs.ParityRacks.{IsNoted, ParityHandles, parity_disks, parity_words};
-
-    ghost handles = { ParityHandles R.Rack };
 
     /// The headers of the others say so, unless two disks of the group are out.
     fn drop_disk(&mut self, s: u8, j: u8) -> DropAnswer
@@ -250,6 +251,7 @@ impl<R: Rack> Disks for ParityRack<R> {
         ensures plain { (result ≡ DropAnswer.Plain) ↔ ((parity_disks R.Rack self.old).width ≡ None) }
         ensures idle { (parity_disks R.Rack self.old).width ≡ None → self.new ≡ self.old }
         ensures answer { IfSome (parity_disks R.Rack self.old).width (λ n. DropsDisk n s j (parity_disks R.Rack self.old) (parity_disks R.Rack self.new) result) }
+        ensures already { result ≡ DropAnswer.Already → self.new ≡ self.old }
         ensures disks { OneDisk s j (parity_disks R.Rack self.old) (parity_disks R.Rack self.new) }
         ensures leaves { LeavesMembers (parity_words R.Rack) s self.old self.new }
         ensures handles { IsSome (parity_disks R.Rack self.old).width → ParityHandles R.Rack self.old s j self.new }
@@ -268,6 +270,7 @@ impl<R: Rack> Disks for ParityRack<R> {
         ensures plain { (result ≡ MendAnswer.Plain) ↔ ((parity_disks R.Rack self.old).width ≡ None) }
         ensures idle { (parity_disks R.Rack self.old).width ≡ None → self.new ≡ self.old }
         ensures answer { IfSome (parity_disks R.Rack self.old).width (λ n. MendsDisk n s j (parity_disks R.Rack self.old) (parity_disks R.Rack self.new) result) }
+        ensures not_out { result ≡ MendAnswer.NotOut → self.new ≡ self.old }
         ensures disks { OneDisk s j (parity_disks R.Rack self.old) (parity_disks R.Rack self.new) }
         ensures leaves { LeavesMembers (parity_words R.Rack) s self.old self.new }
         ensures handles { IsSome (parity_disks R.Rack self.old).width → ParityHandles R.Rack self.old s j self.new }
@@ -288,7 +291,11 @@ impl<R: Rack> Disks for ParityRack<R> {
         }
     }
 
-    ghost single = { λ it x some. parity_single (words_by R.name R.bytes R.counts R.stands R.steady R.tells R.keeps R.disks R.made) it x some };
+    ghost handled = { λ a b s j h. parity_handled _ s j a b h };
 
-    ghost lost = { λ it x. parity_lost (words_by R.name R.bytes R.counts R.stands R.steady R.tells R.keeps R.disks R.made) it x };
+    ghost single = { λ it x some. parity_single
+        (words_by R.name R.bytes R.counts R.stands R.steady R.tells R.keeps R.disks R.made R.handles) it x some };
+
+    ghost lost = { λ it x. parity_lost
+        (words_by R.name R.bytes R.counts R.stands R.steady R.tells R.keeps R.disks R.made R.handles) it x };
 }

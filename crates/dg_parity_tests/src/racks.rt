@@ -1,11 +1,11 @@
 // Racks of four groups of three disks over a rack in memory.
 ghost use Rattle.std.specs.Prelude.{◌≡◌, ◌<◌, ◌*◌, ℕ, false, true, length, IfOk, IfSome, IsSome};
 ghost use Rattle.dg_parity.specs.ArrayCalls.{MendsBehind, RackGoesOn};
-ghost use Rattle.dg_parity.specs.ParityRacks.{IsNoted, parity_bytes, parity_disks, parity_stands};
+ghost use Rattle.dg_parity.specs.ParityRacks.{IsNoted, parity_bytes, parity_stands};
 ghost use Rattle.dg_parity_tests.specs.Shapes.{HasShape};
 
 use dg_io::{Disks, DropAnswer, MemRack, MendAnswer, Rack};
-use dg_parity::ParityRack;
+use dg_parity::{GroupRack, ParityRack};
 use std::alloc::Global;
 use std::test::Fail;
 
@@ -15,6 +15,14 @@ const SIZE: u64 = 69993;
 // The rack behind, in memory.
 fn behind(alloc: Global) -> Result<MemRack, Fail> {
     Ok(MemRack::new(alloc, 64, 512 * 70, Vec::from_slice(alloc, &[])?)?)
+}
+
+// A rack of groups gives the rack behind back, as it was.
+fn given_back<R: Rack + Drop>(alloc: Global, behind: R) -> Result<R, Fail>
+    ensures { IfOk result (λ it. it ≡ behind) }
+{
+    let grouped = GroupRack::new(alloc, behind, 4, 3)?;
+    Ok(grouped.into_rack())
 }
 
 // A rack whose groups weren't made yet.
@@ -106,26 +114,27 @@ fn extends<R: Rack>(rack: &mut ParityRack<R>, member: u8, size: u64) -> bool
     }
 }
 
-// A disk goes out. The headers of the others say so, unless the group is lost.
+// A disk goes out. The headers of the others say so, unless the group is lost. Where it was out, the rack is as it was.
 fn drops<R: Rack>(rack: &mut ParityRack<R>, s: u8, j: u8) -> DropAnswer
     requires shape { HasShape R.Rack 4 3 rack.old }
     requires group { s < 4 }
     requires disk { j < 3 }
     ensures shape { HasShape R.Rack 4 3 rack.new }
     ensures noted { result ≡ DropAnswer.Dropped false → IsNoted rack.new (2 * s) }
+    ensures already { result ≡ DropAnswer.Already → rack.new ≡ rack.old }
     ensures goes_on { RackGoesOn R.Rack rack.old rack.new }
 {
     rack.drop_disk(s, j)
 }
 
-// A disk comes back, in a bounded number of calls. Where it wasn't out, the disks are as they were.
+// A disk comes back, in a bounded number of calls. Where it wasn't out, the rack is as it was.
 fn mends<R: Rack>(rack: &mut ParityRack<R>, s: u8, j: u8) -> MendAnswer
     requires shape { HasShape R.Rack 4 3 rack.old }
     requires group { s < 4 }
     requires disk { j < 3 }
     ensures shape { HasShape R.Rack 4 3 rack.new }
     ensures noted { (c : ℕ) → result ≡ MendAnswer.Mended c → IsNoted rack.new (2 * s) }
-    ensures idle { result ≡ MendAnswer.NotOut → parity_disks R.Rack rack.new ≡ parity_disks R.Rack rack.old }
+    ensures not_out { result ≡ MendAnswer.NotOut → rack.new ≡ rack.old }
     ensures goes_on { RackGoesOn R.Rack rack.old rack.new }
     ensures calls { MendsBehind R.Rack rack.old rack.new s }
 {
@@ -182,7 +191,7 @@ fn a_longer_member(rt: HostRuntime) -> Result<(), Fail> {
 
 #[test]
 fn members_that_are_not_there(rt: HostRuntime) -> Result<(), Fail> {
-    let mut rack = made(rt.alloc(), behind(rt.alloc())?)?;
+    let mut rack = made(rt.alloc(), given_back(rt.alloc(), behind(rt.alloc())?)?)?;
     assert!(rt; rack.disks() == Some(3));
     assert!(rt; long(&mut rack, 0) == None);
     assert!(rt; drops(&mut rack, 0, 0) == DropAnswer::Already);

@@ -1,7 +1,8 @@
 use Rattle.std.proofs.Common.{◌≡◌, ◌<◌, ℕ, refl, slice_set, sym, subst, ap, ◌∙◌}
 use Rattle.dg_io.specs.DiskAnswers.{DropsDisk}
-use Rattle.dg_parity.proofs.ArrayLemmas.{SetsAt, sets-at}
+use Rattle.dg_parity.proofs.ArrayLemmas.{SetsAt, set-back, sets-at}
 use Rattle.dg_parity.proofs.DiskLemmas.{drop-noted, drop-told, drop-turns, drops-disk, steps-on}
+use Rattle.dg_parity.specs.declared.groups.Group.{Group}
 use Rattle.dg_parity.specs.Arrays.{is_noted, states_in, width_at, width_of}
 use Rattle.dg_parity.proofs.GoesOnLemmas.{called-at, goes-one}
 use Rattle.dg_parity.proofs.group_calls.drop_at.Goals as goal
@@ -55,3 +56,13 @@ returns-in-Some-clause-noted g c is =
     let sets : SetsAt (c.args.s) old (slice_set old (c.args.s) b) a b =
     sets-at (c.args.s) old a b (subst (λ (n : ℕ). c.args.s < n) c.args.groups.now.ok.0 (c.in-Some.ensures.variant.0 refl)) c.in-Some.ensures.value in
     ap is_noted sets.is ∙ c.drop_disk.ensures.noted is
+
+pub returns-in-Some-clause-already : goal.returns-in-Some-clause-already
+returns-in-Some-clause-already g c is =
+    let old = c.args.groups.now.items in
+    let a = c.in-Some.group.now in
+    let b = c.drop_disk.new.group in
+    let sets : SetsAt (c.args.s) old (slice_set old (c.args.s) b) a b =
+    sets-at (c.args.s) old a b (subst (λ (n : ℕ). c.args.s < n) c.args.groups.now.ok.0 (c.in-Some.ensures.variant.0 refl)) c.in-Some.ensures.value in
+    let idle = c.drop_disk.ensures.idle (c.drop_disk.ensures.already.0 is) in
+    (ap (λ (k : Group). slice_set old c.args.s k) idle.0 ∙ set-back old c.args.s a sets.was, idle.1)

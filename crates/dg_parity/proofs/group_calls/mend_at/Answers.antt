@@ -1,6 +1,6 @@
 use Rattle.std.proofs.Common.{◌≡◌, ◌<◌, ℕ, refl, slice_set, sym, subst, ap, inl, inr, ◌∙◌}
 use Rattle.dg_io.specs.DiskAnswers.{MendsDisk}
-use Rattle.dg_parity.proofs.ArrayLemmas.{SetsAt, sets-at, still-turns}
+use Rattle.dg_parity.proofs.ArrayLemmas.{SetsAt, set-back, sets-at, still-turns}
 use Rattle.dg_parity.proofs.DiskLemmas.{mend-told, mends-disk, steps-on}
 use Rattle.std.specs.Prelude.{Option}
 use Rattle.dg_parity.specs.ArrayCalls.{mends_of}
@@ -69,3 +69,13 @@ returns-in-Some-clause-calls g c =
     let sets : SetsAt (c.args.s) old (slice_set old (c.args.s) b) a b =
     sets-at (c.args.s) old a b (subst (λ (n : ℕ). c.args.s < n) c.args.groups.now.ok.0 (c.in-Some.ensures.variant.0 refl)) c.in-Some.ensures.value in
     subst (λ (o : Option Group). MostCalls g.R.Rack (mends_of o) c.args.rack.now c.mend.new.rack) (sym sets.was) c.mend.ensures.calls
+
+pub returns-in-Some-clause-not_out : goal.returns-in-Some-clause-not_out
+returns-in-Some-clause-not_out g c is =
+    let old = c.args.groups.now.items in
+    let a = c.in-Some.group.now in
+    let b = c.mend.new.group in
+    let sets : SetsAt (c.args.s) old (slice_set old (c.args.s) b) a b =
+    sets-at (c.args.s) old a b (subst (λ (n : ℕ). c.args.s < n) c.args.groups.now.ok.0 (c.in-Some.ensures.variant.0 refl)) c.in-Some.ensures.value in
+    let idle = c.mend.ensures.idle (inr (c.mend.ensures.not_out.0 is).1) in
+    (ap (λ (k : Group). slice_set old c.args.s k) idle.0 ∙ set-back old c.args.s a sets.was, idle.1)

@@ -1,4 +1,4 @@
-use Rattle.std.proofs.Common.{◌<◌, ℕ, length, sym, ap, subst, ◌∙◌}
+use Rattle.std.proofs.Common.{◌≡◌, ◌<◌, ℕ, length, sym, ap, subst, ◌∙◌}
 use Rattle.dg_io.specs.DiskAnswers.{DropsDisk, LeavesMembers, OneDisk}
 use Rattle.dg_parity.proofs.ArraySteps.{held_on, members_on, handles_on}
 use Rattle.dg_parity.specs.DiskLaws.{member_group}
@@ -51,3 +51,11 @@ returns-clause-goes_on g c =
 
 pub returns-clause-noted : goal.returns-clause-noted
 returns-clause-noted g c is = ap is_noted (member_group c.drop_at.new.groups.items c.args.s) ∙ c.drop_at.ensures.noted is
+
+pub returns-clause-already : goal.returns-clause-already
+returns-clause-already g c is =
+    let old : Grouped g.row.R.Denot = record { rack = c.self.inside.rack; width = c.self.inside.width; groups = c.self.inside.groups.items; tally = c.self.inside.tally } in
+    let new : Grouped g.row.R.Denot = record { rack = c.drop_at.new.rack; width = c.self.inside.width; groups = c.drop_at.new.groups.items; tally = c.self.inside.tally } in
+    let at = c.drop_at.ensures.already is in
+    let same : new ≡ old = λ i. record { rack = at.1 i; width = c.self.inside.width; groups = at.0 i; tally = c.self.inside.tally } in
+    same ∙ c.self.view_is

@@ -1,4 +1,4 @@
-use Rattle.std.proofs.Common.{◌<◌, ℕ, length, sym, ap, subst, ◌∙◌}
+use Rattle.std.proofs.Common.{◌≡◌, ◌<◌, ℕ, length, sym, ap, subst, ◌∙◌}
 use Rattle.dg_io.specs.DiskAnswers.{MendsDisk, LeavesMembers, OneDisk}
 use Rattle.dg_parity.proofs.ArraySteps.{held_on, members_on, handles_on}
 use Rattle.dg_parity.specs.DiskLaws.{member_group}
@@ -58,3 +58,11 @@ returns-clause-noted g c n is = ap is_noted (member_group c.mend_at.new.groups.i
 pub returns-clause-calls : goal.returns-clause-calls
 returns-clause-calls g c =
     subst (λ (s : Grouped g.row.R.Denot). MostCalls g.R.Rack (mends_of (slice_get s.groups c.args.s)) s.rack c.mend_at.new.rack) c.self.view_is c.mend_at.ensures.calls
+
+pub returns-clause-not_out : goal.returns-clause-not_out
+returns-clause-not_out g c is =
+    let old : Grouped g.row.R.Denot = record { rack = c.self.inside.rack; width = c.self.inside.width; groups = c.self.inside.groups.items; tally = c.self.inside.tally } in
+    let new : Grouped g.row.R.Denot = record { rack = c.mend_at.new.rack; width = c.self.inside.width; groups = c.mend_at.new.groups.items; tally = c.self.inside.tally } in
+    let at = c.mend_at.ensures.not_out is in
+    let same : new ≡ old = λ i. record { rack = at.1 i; width = c.self.inside.width; groups = at.0 i; tally = c.self.inside.tally } in
+    same ∙ c.self.view_is

@@ -1,4 +1,4 @@
-use Rattle.std.proofs.Common.{◌≡◌, [], ◌∷◌, refl, subst, ◌⊎◌, ◌<◌, false, sym, true, length}
+use Rattle.std.proofs.Common.{◌≡◌, [], ◌∷◌, refl, subst, ◌⊎◌, ◌<◌, false, sym, true}
 use Rattle.std.specs.Prelude.{OnErr, OnOk, IfSome}
 use Rattle.dg_io.specs.RackCalls.RackCall.{extends}
 use Rattle.dg_io.specs.RackWords.{Leaves}
