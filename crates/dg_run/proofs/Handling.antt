@@ -1,14 +1,13 @@
 -- What events on single disks leave and answer.
-use Rattle.std.proofs.Common.{◌≡◌, ◌≢◌, ◌⊎◌, ◌∙◌, ◌*◌, ◌/◌, ◌+◌, ◌<◌, ◌≤◌, ℕ, Bool, zero, suc, true, false, List, [], ◌∷◌, ap, arith, inl, inr, length, nat_lt, refl, slice_index, subst, sym}
+use Rattle.std.proofs.Common.{◌≡◌, ◌≢◌, ◌⊎◌, ◌∙◌, ◌*◌, ◌+◌, ◌<◌, ◌≤◌, ℕ, Bool, zero, suc, true, false, List, [], ◌∷◌, ap, arith, inl, inr, length, nat_lt, refl, slice_index, subst, sym}
 use Rattle.std.specs.Prelude.{IfSome, MatchOption, None, Option, Some, filter, if◌then◌else◌}
-use Rattle.std.proofs.lemmas.Bool.{cases_Bool, cases_lt, false≢true}
+use Rattle.std.proofs.lemmas.Bool.{cases_lt, false≢true}
 use Rattle.std.proofs.lemmas.Bool.Decides.{nat_tests}
 use Rattle.std.proofs.lemmas.List.Elements.{All-get_or}
 use Rattle.dg_io.specs.DiskAnswers.{is_group_lost}
 use Rattle.dg_io.specs.declared.outside.Rack.{Ghosts}
 use Rattle.dg_model.proofs.RegroupLaws.{place_at}
 use Rattle.dg_model.specs.Lives.{boundary_at, place_in}
-use Rattle.dg_model.specs.Members.{is_lost}
 use Rattle.dg_model.specs.Moments.{IsDisk, IsInUse}
 use Rattle.dg_model.specs.States.{State}
 use Rattle.dg_model.specs.Steps.{Step}

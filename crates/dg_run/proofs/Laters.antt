@@ -1,6 +1,6 @@
 -- What events leave of the rack of the run, and of an array that stands on it.
 use Rattle.std.proofs.Common.{◌≡◌, ◌⊎◌, ◌∙◌, ◌/◌, ◌≤◌, ◌<◌, ℕ, false, true, List, [], ◌++◌, ap, arith, inl, inr, length, map, refl, slice_index, subst, sym}
-use Rattle.std.specs.Prelude.{All, slice_index_or}
+use Rattle.std.specs.Prelude.{slice_index_or}
 use Rattle.std.proofs.lemmas.List.Elements.{All-get_or}
 use Rattle.dg_io.specs.DiskAnswers.{HandlesAs}
 use Rattle.dg_io.specs.Makes.{Makes}
