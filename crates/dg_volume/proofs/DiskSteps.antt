@@ -31,7 +31,7 @@ module _ {S R : Type 0} (phase : phases.Ghosts S) (rack : Ghosts R) where
   -- ---- nothing is done
 
   pub disks_none : (s j : ℕ) (a : Volume S R) → IsWell phase rack a → LeavesDisks rack s j a a
-  disks_none s j a well = record { fails = false; array = handles_none rack (place_of a s) j a.store well.array; idle = λ none. refl }
+  disks_none s j a well = record { fails = false; array = handles_none rack (place_of a s) j a.store well.array; idle = λ none. refl; live = refl }
 
   -- ---- a call on disk j of boundary t, which is at place s
 
@@ -63,6 +63,7 @@ module _ {S R : Type 0} (phase : phases.Ghosts S) (rack : Ghosts R) where
         fails = fails;
         array = subst (λ (k : ℕ). DiskLeaves rack k j fails a.store store) (sym place.is) h;
         idle = λ none. absurd (cc (some, none));
+        live = refl;
       }
 
       -- the state that it is in then, where the member may fail

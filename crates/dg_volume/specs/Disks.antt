@@ -60,6 +60,7 @@ pub record LeavesDisks {S R : Type 0} (rack : Ghosts R) (s j : ℕ) (old new : V
   pub fails : Bool
   pub array : DiskLeaves rack (place_of old s) j fails old.store new.store
   pub idle : (rack.disks (rack_of old)).width ≡ None → new ≡ old
+  pub live : live_of new ≡ live_of old
 
 -- ---- the answers
 

@@ -6,7 +6,7 @@ pub returns-clause-goes : goal.returns-clause-goes
 returns-clause-goes g c = record {
   on = c.drop_disk.ensures.on;
   hot = refl;
-  live = ?;
+  live = c.drop_disk.ensures.leaves.live;
   leaves = c.drop_disk.ensures.leaves;
   handles = drop_calls g.R.Rack c.args.array.now (record c.args.array.now { volume = c.drop_disk.new.self }) c.args.s c.args.j c.drop_disk.ensures.leaves c.drop_disk.result c.drop_disk.ensures.answer c.drop_disk.ensures.already c.drop_disk.ensures.handles;
 }
