@@ -3,7 +3,7 @@ use Rattle.std.proofs.Common.{◌≡◌, ◌∙◌, ℕ, Bool, true, false, ◌�
 use Rattle.std.specs.Prelude.{Option, Some, None}
 use Rattle.dg_model.specs.Causes.{Rose}
 use Rattle.dg_model.specs.States.{Counts}
-use Rattle.dg_io.specs.Disks.{DiskStates, DisksRise, DisksAfter}
+use Rattle.dg_io.specs.Disks.{DiskStates, DisksRise, DisksAfter, no_disks}
 use Rattle.dg_io.specs.Kept.{Kept}
 use Rattle.dg_io.specs.Made.{AfterCalls}
 use Rattle.dg_io.specs.RackCalls.{RackCall, Each}
@@ -48,6 +48,7 @@ went_out a b c s j first second false mid was is = then_rose _ _ _ (first.rise s
 disks_both : (a b c : DiskStates) (x y : List RackCall) → DisksAfter x a b → DisksAfter y b c → DisksAfter (x ++ y) a c
 disks_both a b c x y first second = record {
   rises = record {
+    same = record { width = second.rises.same.width ∙ first.rises.same.width; count = second.rises.same.count ∙ first.rises.same.count };
     rise = λ s j. omega (arith, first.rises.rise s j, second.rises.rise s j);
     cause = λ s j. went_out a b c s j first.rises second.rises (b.out s j) refl;
   };
@@ -61,7 +62,7 @@ disks_both a b c x y first second = record {
 -- whatever calls are made of a rack without disks
 pub disks_same : (states : DiskStates) (calls : List RackCall) → DisksAfter calls states states
 disks_same states calls = record {
-  rises = record { rise = λ s j. omega arith; cause = λ s j was is. absurd (went (states.out s j) was is) };
+  rises = record { same = record { width = refl; count = refl }; rise = λ s j. omega arith; cause = λ s j was is. absurd (went (states.out s j) was is) };
   stays = λ s j each was. was;
   others = λ s each. record { out = λ j. refl; faults = λ j. refl };
 } where
@@ -120,4 +121,21 @@ after_through f own name bytes counts stands steady tells keeps disks calls a b 
   told_before = after.told_before;
   keeps_on = after.keeps_on;
   disks_after = after.disks_after;
+}
+
+-- and of one that stands for it without its disks
+pub after_without : {S T : Type 0} (f : S → T) (name : T → ℕ) (bytes : T → ℕ → Option (List ℕ)) (counts : T → Counts) (stands : T → ℕ → Bool) (steady : T → Type 0) (tells : T → ℕ → Type 0)
+    (keeps : T → Option Kept → Type 0) (disks : T → DiskStates) (calls : List RackCall) (a b : S) → AfterCalls name bytes counts stands steady tells keeps disks calls (f a) (f b)
+    → AfterCalls (λ s. name (f s)) (λ s. bytes (f s)) (λ s. counts (f s)) (λ s. stands (f s)) (λ s. steady (f s)) (λ s. tells (f s)) (λ s. keeps (f s)) (λ s. no_disks) calls a b
+after_without f name bytes counts stands steady tells keeps disks calls a b after = record {
+  same_rack = after.same_rack;
+  steady_on = after.steady_on;
+  rise = after.rise;
+  most = after.most;
+  other_bytes = after.other_bytes;
+  other_faults = after.other_faults;
+  others_stand = after.others_stand;
+  told_before = after.told_before;
+  keeps_on = after.keeps_on;
+  disks_after = disks_same no_disks calls;
 }

@@ -1,6 +1,6 @@
 // Racks that may have groups of disks for members.
-ghost use Rattle.std.specs.Prelude.{◌≡◌, ◌↔◌, ◌<◌, ℕ, Option, None, IfSome};
-ghost use Rattle.dg_io.specs.DiskAnswers.{OneDisk, DropsDisk, MendsDisk, LeavesMembers};
+ghost use Rattle.std.specs.Prelude.{◌≡◌, ◌↔◌, ◌<◌, ◌+◌, ◌*◌, ℕ, Option, None, IfSome, IsSome, true, false};
+ghost use Rattle.dg_io.specs.DiskAnswers.{OneDisk, DropsDisk, MendsDisk, HandlesAs, LeavesMembers, is_group_lost};
 
 use crate::Rack;
 
@@ -30,46 +30,45 @@ pub enum MendAnswer {
     Mended(u32),
 }
 
-/// A rack whose members are groups of disks, or a plain one.
+/// A rack whose members are groups of disks, or a plain one. Member 2s is group s, and member 2s + 1 is never there.
 pub trait Disks: Rack {
-    /// How many disks a group has, or none of a plain rack.
-    ghost width: { Self → Option ℕ };
-
-    /// How many groups it has.
-    ghost groups: { Self → ℕ };
-
     /// A disk of a group goes out.
     fn drop_disk(&mut self, s: u8, j: u8) -> DropAnswer
-        requires place { IfSome (width self.old) (λ n. (s < groups self.old) × (j < n)) }
-        ensures plain { (result ≡ DropAnswer.Plain) ↔ (width self.old ≡ None) }
-        ensures idle { width self.old ≡ None → self.new ≡ self.old }
-        ensures answer { IfSome (width self.old) (λ n. DropsDisk n s j (Self.disks self.old) (Self.disks self.new) result) }
+        requires place { IfSome (Self.disks self.old).width (λ n. (s < (Self.disks self.old).groups) × (j < n)) }
+        ensures plain { (result ≡ DropAnswer.Plain) ↔ ((Self.disks self.old).width ≡ None) }
+        ensures idle { (Self.disks self.old).width ≡ None → self.new ≡ self.old }
+        ensures answer { IfSome (Self.disks self.old).width (λ n. DropsDisk n s j (Self.disks self.old) (Self.disks self.new) result) }
+        ensures already { result ≡ DropAnswer.Already → self.new ≡ self.old }
         ensures disks { OneDisk s j (Self.disks self.old) (Self.disks self.new) }
-        ensures leaves { LeavesMembers Self.Rack self.old self.new }
-        ensures width { width self.new ≡ width self.old }
-        ensures groups { groups self.new ≡ groups self.old };
+        ensures leaves { LeavesMembers Self.Rack s self.old self.new }
+        ensures handles { IsSome (Self.disks self.old).width → Self.handles self.old s j self.new };
 
     /// A disk of a group comes back, and is filled from the others.
     fn mend(&mut self, s: u8, j: u8) -> MendAnswer
-        requires place { IfSome (width self.old) (λ n. (s < groups self.old) × (j < n)) }
-        ensures plain { (result ≡ MendAnswer.Plain) ↔ (width self.old ≡ None) }
-        ensures idle { width self.old ≡ None → self.new ≡ self.old }
-        ensures answer { IfSome (width self.old) (λ n. MendsDisk n s j (Self.disks self.old) (Self.disks self.new) result) }
+        requires place { IfSome (Self.disks self.old).width (λ n. (s < (Self.disks self.old).groups) × (j < n)) }
+        ensures plain { (result ≡ MendAnswer.Plain) ↔ ((Self.disks self.old).width ≡ None) }
+        ensures idle { (Self.disks self.old).width ≡ None → self.new ≡ self.old }
+        ensures answer { IfSome (Self.disks self.old).width (λ n. MendsDisk n s j (Self.disks self.old) (Self.disks self.new) result) }
+        ensures not_out { result ≡ MendAnswer.NotOut → self.new ≡ self.old }
         ensures disks { OneDisk s j (Self.disks self.old) (Self.disks self.new) }
-        ensures leaves { LeavesMembers Self.Rack self.old self.new }
-        ensures width { width self.new ≡ width self.old }
-        ensures groups { groups self.new ≡ groups self.old };
+        ensures leaves { LeavesMembers Self.Rack s self.old self.new }
+        ensures handles { IsSome (Self.disks self.old).width → Self.handles self.old s j self.new };
 
     /// How many disks a group has, or `None` of a plain rack.
     fn disks(&self) -> Option<u8>
-        ensures { result ≡ width self.now };
+        ensures { result ≡ (Self.disks self.now).width };
+
+    /// What a call on a disk leaves.
+    ghost handled: { (a b : Self) (s j : ℕ) → Self.handles a s j b → HandlesAs Self.Rack s j a b };
+
+    /// No second member stands of a rack of groups.
+    ghost single: { (it : Self) (x : ℕ) → IsSome (Self.disks it).width → Self.stands it (2 * x + 1) ≡ false };
+
+    /// No member stands of a group of which two disks are out.
+    ghost lost: { (it : Self) (x : ℕ) → IfSome (Self.disks it).width (λ n. is_group_lost n (Self.disks it).out x ≡ true → Self.stands it (2 * x) ≡ false) };
 }
 
 impl<R: Disks> Disks for &mut R {
-    ghost width = { λ r. R.width r.now };
-
-    ghost groups = { λ r. R.groups r.now };
-
     fn drop_disk(&mut self, s: u8, j: u8) -> DropAnswer {
         (**self).drop_disk(s, j)
     }
@@ -81,4 +80,22 @@ impl<R: Disks> Disks for &mut R {
     fn disks(&self) -> Option<u8> {
         (**self).disks()
     }
+
+    ghost handled = { λ a b s j h. let is = R.handled a.now b.now s j h.0 in record {
+        one = is.one;
+        leaves = record {
+            same_rack = h.1;
+            steady_on = is.leaves.steady_on;
+            counts_stay = is.leaves.counts_stay;
+            others_stand = is.leaves.others_stand;
+            stands_on = is.leaves.stands_on;
+            same = is.leaves.same;
+            told_before = is.leaves.told_before;
+            keeps_on = is.leaves.keeps_on;
+        };
+    } };
+
+    ghost single = { λ it x some. R.single it.now x some };
+
+    ghost lost = { λ it x. R.lost it.now x };
 }

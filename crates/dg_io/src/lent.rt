@@ -50,6 +50,8 @@ impl<R: Rack> Rack for &mut R {
 
     ghost made = { λ a calls b. R.made a.now calls b.now × (b.ghost_name ≡ a.ghost_name) };
 
+    ghost handles = { λ a s j b. R.handles a.now s j b.now × (b.ghost_name ≡ a.ghost_name) };
+
     fn blank(&mut self, member: u8, length: u64) -> Result<(), Failed> {
         (**self).blank(member, length)
     }

@@ -93,6 +93,9 @@ pub trait Rack {
     /// What may have become of it by just these calls, one after another.
     ghost made: { Self → List RackCall → Self → Type 0 };
 
+    /// What a call on a disk of a group, given by their numbers, may leave of it and of what it stands on. A plain rack has no disks.
+    ghost handles: { Self → ℕ → ℕ → Self → Type 0 };
+
     /// Makes the member anew, of so many zero bytes. A failed one leaves any bytes, and any length.
     fn blank(&mut self, member: u8, length: u64) -> Result<(), Failed>
         ensures ok { OnOk result (Told (IsZeros length) (bytes self.old member) (bytes self.new member)) }

@@ -1,5 +1,6 @@
 // The racks in memory are plain: they keep no checkpoint, and have no disks.
 ghost use Rattle.std.specs.Prelude.{◌≡◌, None};
+ghost use Rattle.std.proofs.lemmas.Bool.{false≢true};
 
 use crate::{Checkpoint, CommitAnswer, Disks, DropAnswer, MemRack, MendAnswer, SureRack};
 
@@ -21,10 +22,6 @@ impl Checkpoint for MemRack {
 }
 
 impl Disks for MemRack {
-    ghost width = { λ rack. None };
-
-    ghost groups = { λ rack. 0 };
-
     fn drop_disk(&mut self, _s: u8, _j: u8) -> DropAnswer {
         DropAnswer::Plain
     }
@@ -36,6 +33,12 @@ impl Disks for MemRack {
     fn disks(&self) -> Option<u8> {
         None
     }
+
+    ghost handled = { λ a b s j h. absurd h };
+
+    ghost single = { λ it x some. absurd (false≢true some) };
+
+    ghost lost = { λ it x. tt };
 }
 
 impl Checkpoint for SureRack {
@@ -56,10 +59,6 @@ impl Checkpoint for SureRack {
 }
 
 impl Disks for SureRack {
-    ghost width = { λ rack. None };
-
-    ghost groups = { λ rack. 0 };
-
     fn drop_disk(&mut self, _s: u8, _j: u8) -> DropAnswer {
         DropAnswer::Plain
     }
@@ -71,4 +70,10 @@ impl Disks for SureRack {
     fn disks(&self) -> Option<u8> {
         None
     }
+
+    ghost handled = { λ a b s j h. absurd h };
+
+    ghost single = { λ it x some. absurd (false≢true some) };
+
+    ghost lost = { λ it x. tt };
 }

@@ -141,6 +141,8 @@ impl Rack for MemRack {
 
     ghost made = { made_in };
 
+    ghost handles = { λ a s j b. ⊥ };
+
     /// It fails exactly where the call is listed, or the member can't have so many bytes.
     fn blank(&mut self, member: u8, length: u64) -> Result<(), Failed>
         ensures ok { OnOk result (Told (IsZeros length) (member_in self.old member) (member_in self.new member)) }
@@ -302,6 +304,8 @@ impl Rack for SureRack {
     ghost disks = { sure_disks };
 
     ghost made = { sure_made };
+
+    ghost handles = { λ a s j b. ⊥ };
 
     /// It tells on exactly where there is room for so many bytes.
     fn blank(&mut self, member: u8, length: u64) -> Result<(), Failed>

@@ -11,7 +11,8 @@ use Rattle.dg_parity.specs.Openings.{IsFound, IsOpened, IsOpenedOr, LeavesRead}
 use Rattle.dg_parity.specs.Reopens.{IsBack, OpensArray}
 use Rattle.dg_parity.specs.declared.groups.Group.{Group}
 use Rattle.dg_parity.specs.declared.parity_racks.ParityRack.TheVariants.{OfGroups}
-use Rattle.dg_parity.proofs.ArraySteps.{member-group, some-at}
+use Rattle.dg_parity.proofs.ArraySteps.{some-at}
+use Rattle.dg_parity.specs.DiskLaws.{member_group}
 use Rattle.dg_parity.proofs.EpochLemmas.{finds-left, reopened, same-numbers}
 use Rattle.dg_parity.proofs.PartLemmas.{both-in}
 use Rattle.dg_parity.proofs.GroupLemmas.{same-then}
@@ -69,7 +70,7 @@ module _ {R : Type 0} (rack : Ghosts R) (old new : Grouped R) (before : R) (s : 
 
   back-at : (next : Group) → slice_get new.groups s ≡ Some next → IsBack rack s (OfGroups old) before (OfGroups new)
   back-at next is =
-      let alive : is_lost next ≡ false = not-lost (is_lost next) (sym (ap is_served (member-group new.groups s ∙ is)) ∙ served) in
+      let alive : is_lost next ≡ false = not-lost (is_lost next) (sym (ap is_served (member_group new.groups s ∙ is)) ∙ served) in
       let h : IsReopened rack group next before new.rack = again next alive (opened-at rack new.rack opens.opens.fronts new.width s new.groups next opens.opens.opened is) in
       let ins : (j : ℕ) → out_of (slice_get new.groups s) j ≡ false → is_out group j ≡ false = λ j e. elim (cases_Bool (is_out group j)) [
         | inr in0 ↦ in0
@@ -115,7 +116,7 @@ module _ {R : Type 0} (rack : Ghosts R) (old new : Grouped R) (before : R) (s : 
   same-width : new.width ≡ old.width
   same-width =
       let found = some-at new.groups s (omega (arith, below, opens.opens.count)) in
-      width-at found.0 (not-lost (is_lost found.0) (sym (ap is_served (member-group new.groups s ∙ found.1)) ∙ served))
+      width-at found.0 (not-lost (is_lost found.0) (sym (ap is_served (member_group new.groups s ∙ found.1)) ∙ served))
       (opened-at rack new.rack opens.opens.fronts new.width s new.groups found.0 opens.opens.opened found.1)
 
   pub noted-back : group.noted ≡ true → IsCountable group → IsBack rack s (OfGroups old) before (OfGroups new)

@@ -1,6 +1,6 @@
 -- A group that is made anew, disk by disk.
 use Rattle.std.proofs.Common.{◌≡◌, ◌≢◌, ℕ, zero, suc, ◌+◌, ◌<◌, ◌≤◌, inl, inr, true, false, List, length, get_or, refl, sym, ap, subst, ◌∙◌, arith}
-use Rattle.std.specs.Prelude.{Option, None, Some, IsSome, IfSome, Ok, Err, slice_index, replicate, bit_xor, ◌&&◌}
+use Rattle.std.specs.Prelude.{Option, None, Some, IsSome, IfSome, Ok, Err, slice_index, not, replicate, bit_xor, ◌&&◌}
 use Rattle.std.proofs.lemmas.Bool.{cases_eq, cases_Bool, false≢true, and_parts}
 use Rattle.std.proofs.lemmas.List.{ext_get_or, length-replicate}
 use Rattle.dg_model.specs.Causes.{Rose}
@@ -14,11 +14,12 @@ use Rattle.dg_parity.specs.Groups.{disk_number, is_out, is_sure, is_lost, length
 use Rattle.dg_parity.specs.Kept.{all_told, bytes_in, IsKept}
 use Rattle.dg_parity.specs.declared.groups.Group.{Group}
 use Rattle.dg_parity.proofs.GroupLemmas.{heads-numbered, same-then, same-self, rise-then, rose-later, rose-sooner, other-disk}
-use Rattle.dg_parity.proofs.KeptLemmas.{told-each, kept-of, stands-is}
-use Rattle.dg_parity.proofs.KeptSteps.{each-told, told-if, both-true}
+use Rattle.dg_parity.proofs.KeptLemmas.{kept-of, stands-is}
+use Rattle.dg_parity.proofs.KeptSteps.{told-if}
 use Rattle.dg_parity.proofs.CallLemmas.{told-back}
 use Rattle.dg_parity.proofs.MemberLemmas.{member-length, member-at}
 use Rattle.dg_parity.proofs.MemberSteps.{stands-noted}
+use Rattle.dg_parity.specs.TellLaws.{both_true, each_told, told_each}
 
 -- ---- one disk
 
@@ -54,7 +55,7 @@ pub blanked-failed : {S T E : Type 0} (rack : Ghosts S) (group : Group) (j q : �
 blanked-failed {T = T} {E = E} rack group j q e before now is call out noted =
     let own : Leaves {T = T} {E = E} rack (disk_number group.number j) (Err e) before now = subst (λ (k : ℕ). Leaves {T = T} {E = E} rack k (Err e) before now) is call in
     record {
-      same = record { number = refl; disks = refl; size = refl; epoch = refl; told = refl; sure = refl };
+      same = record { number = refl; disks = refl; size = refl; epoch = refl; told = refl; sure = refl; remade = refl };
       renewed = noted;
       rest = λ i ne. refl;
       stands = λ h. absurd (false≢true (sym h ∙ out));
@@ -108,7 +109,7 @@ others-one rack group old new j s t lt number h =
 
 pub blanked-none : {S : Type 0} (rack : Ghosts S) (group : Group) (now : S) → group.noted ≡ false → IsBlanked rack group group now now 0
 blanked-none rack group now noted = record {
-  same = record { number = refl; disks = refl; size = refl; epoch = refl; told = refl; sure = refl };
+  same = record { number = refl; disks = refl; size = refl; epoch = refl; told = refl; sure = refl; remade = refl };
   renewed = noted;
   later = λ j h. refl;
   stands = λ j lt. absurd (omega arith);
@@ -135,6 +136,7 @@ blanked-more rack a b c s t u j lt f g =
         epoch = g.same.epoch ∙ f.same.epoch;
         told = g.same.told ∙ f.same.told;
         sure = g.same.sure ∙ f.same.sure;
+        remade = g.same.remade ∙ f.same.remade;
       };
       renewed = g.renewed;
       later = λ i le. g.rest i (λ e. absurd (omega (arith, e, le))) ∙ f.later i (omega arith);
@@ -217,6 +219,7 @@ pub record Anew {S : Type 0} (rack : Ghosts S) (size : ℕ) (old new : Group) (b
   pub told : new.told ≡ true → old.told ≡ true
   pub telling : old.told ≡ true → new.told ≡ true
   pub sure : is_sure new ≡ is_sure old
+  pub remade : new.remade ≡ not old.told
   pub size_is : new.length ≡ size
   pub ready : IsReady rack new now
   pub stands : StandsFor rack new now (replicate size 0)
@@ -236,8 +239,8 @@ others-named rack a b s t number disks h =
       steady_on = h.steady_on;
     }
 
-pub anew-of : {S : Type 0} (rack : Ghosts S) (size : ℕ) (old a b c : Group) (s t : S) → IsLater old a → a.told ≡ old.told → IsRestarted a b → b.length ≡ size → IsBlanked rack b c s t b.disks → Anew rack size old c s t
-anew-of rack size old a b c s t later same again is h =
+pub anew-of : {S : Type 0} (rack : Ghosts S) (size : ℕ) (old a b c : Group) (s t : S) → IsLater old a → a.told ≡ old.told → IsRestarted a b → b.length ≡ size → b.remade ≡ not a.told → IsBlanked rack b c s t b.disks → Anew rack size old c s t
+anew-of rack size old a b c s t later same again is made h =
     let number : b.number ≡ old.number = again.number ∙ later.number in
     let disks : b.disks ≡ old.disks = again.disks ∙ later.disks in
     record {
@@ -246,6 +249,7 @@ anew-of rack size old a b c s t later same again is h =
       told = λ e. later.told (sym again.told ∙ sym h.same.told ∙ e);
       telling = λ e. h.same.told ∙ again.told ∙ same ∙ e;
       sure = h.same.sure ∙ again.sure ∙ later.sure;
+      remade = h.same.remade ∙ made ∙ ap not same;
       size_is = h.same.size ∙ is;
       ready = blanked-ready rack b c s t h;
       stands = subst (λ (n : ℕ). StandsFor rack c t (replicate n 0)) (h.same.size ∙ is) (blanked-stands rack b c s t h);
@@ -265,16 +269,16 @@ pub anew-told : {S : Type 0} (rack : Ghosts S) (size : ℕ) (old mid new : Group
 anew-told rack size old mid new s t u least alive h leaves holds =
     told-if (IsZeros size) (old.told && all_told rack old s) (new.told && all_told rack new u) _ _
     (λ e. let parts = and_parts new.told (all_told rack new u) e in
-    let all = told-back rack mid new t u leaves (told-each rack new u parts.1) in
-    both-true old.told (all_told rack old s) (h.told (leaves.later.told parts.0))
-    (each-told rack old s (
+    let all = told-back rack mid new t u leaves (told_each rack new u parts.1) in
+    both_true old.told (all_told rack old s) (h.told (leaves.later.told parts.0))
+    (each_told rack old s (
       sym h.sure ∙ all.0,
       λ j lt. h.leaves.tells (disk_number old.number j)
           (subst (λ (k : ℕ). IsSome (rack.bytes t (disk_number k j))) h.number (all.1 j (subst (λ (n : ℕ). j < n) (sym h.disks) lt))),
     )))
     (λ e. let parts = and_parts new.told (all_told rack new u) e in
     sym (stands-is rack new u (replicate size 0) (subst (λ (n : ℕ). 3 ≤ n) (sym (leaves.later.disks ∙ h.disks)) least) alive
-    (stands-noted rack mid new t u leaves holds (replicate size 0) (told-each rack new u parts.1) h.stands)))
+    (stands-noted rack mid new t u leaves holds (replicate size 0) (told_each rack new u parts.1) h.stands)))
 
 pub others-of : {S : Type 0} (rack : Ghosts S) (a b : Group) (s t : S) → LeavesGroup rack a b s t → LeavesOthers rack a s t
 others-of rack a b s t h = record {

@@ -1,6 +1,6 @@
 -- A call on one disk of a rack of groups.
-use Rattle.std.proofs.Common.{◌≡◌, ◌≢◌, ℕ, zero, suc, ◌+◌, ◌*◌, ◌/◌, ◌%◌, ◌<◌, ◌≤◌, ◌↔◌, inl, inr, Bool, true, false, List, [], ◌∷◌, length, get_or, refl, sym, ap, subst, ◌∙◌, arith, cond}
-use Rattle.std.specs.Prelude.{Option, Some, slice_get, nat_le, nat_lt, count_by, ◌&&◌, if◌then◌else◌}
+use Rattle.std.proofs.Common.{◌≡◌, ◌≢◌, ℕ, ◌*◌, ◌/◌, ◌%◌, ◌<◌, ◌↔◌, inl, inr, Bool, true, false, List, refl, sym, ap, subst, ◌∙◌, arith}
+use Rattle.std.specs.Prelude.{Option, Some, slice_get, nat_le, nat_lt, not, ◌&&◌}
 use Rattle.std.proofs.lemmas.Bool.{cases_eq, cases_Bool, false≢true, and_parts}
 use Rattle.dg_model.specs.Causes.{Rose}
 use Rattle.dg_io.specs.DiskAnswers.{DropsDisk, MendsDisk, OneDisk, count_upto, is_group_lost}
@@ -11,58 +11,17 @@ use Rattle.dg_io.specs.declared.disks.DropAnswer.TheVariants.{Plain, Already, Dr
 use Rattle.dg_io.specs.declared.disks.MendAnswer.{MendAnswer}
 use Rattle.dg_io.specs.declared.disks.MendAnswer.TheVariants.{Lost, NotOut, Failed, Mended}
 use Rattle.dg_io.specs.declared.outside.Rack.{Ghosts}
-use Rattle.dg_parity.specs.Arrays.{AreKept, IsGroupOf, StepsOn, faults_of, out_of, states_in, told_at}
+use Rattle.dg_parity.specs.Arrays.{AreKept, IsGroupOf, StepsOn, faults_of, out_of, states_in, told_at, width_of}
 use Rattle.dg_parity.specs.Groups.{disk_number, is_lost, is_out, IsStill}
 use Rattle.dg_parity.specs.Kept.{IsKept, bytes_in}
 use Rattle.dg_parity.specs.Blanks.{LeavesOthers}
 use Rattle.dg_parity.specs.Mends.{FallBut}
 use Rattle.dg_parity.specs.declared.groups.Group.{Group}
-use Rattle.dg_parity.proofs.ArrayLemmas.{IsCalled, SetsAt, Turns, cause-at, faults-alike, faults-in, lt-of, lt-true, new-each, others, rise-at, tells, told-own, width-at}
-use Rattle.dg_parity.proofs.KeptSteps.{both-true, told-none}
+use Rattle.dg_parity.proofs.ArrayLemmas.{IsCalled, SetsAt, Turns, alike, behind-at, cause-at, faults-alike, faults-in, lt-of, lt-true, may, may-back, new-each, others, rise-at, serves-is, serves-was, speaks-on, still-on, tells, told-own, unmade-at, width-at}
+use Rattle.dg_parity.proofs.KeptSteps.{told-none}
 use Rattle.dg_parity.proofs.GroupLemmas.{same-self}
-use Rattle.dg_parity.proofs.MarkLemmas.{count-step}
-
--- ---- how many disks are out
-
-upto-next : (x : Bool) (xs : List Bool) (n : ℕ) → count_upto (λ j. get_or (x ∷ xs) j false) (suc n) ≡ cond x 1 0 + count_upto (λ j. get_or xs j false) n
-upto-next x xs zero = omega arith
-upto-next x xs (suc n) = omega (arith, upto-next x xs n)
-
-marks-counted : (xs : List Bool) → count_by (λ x. x) xs ≡ count_upto (λ j. get_or xs j false) (length xs)
-marks-counted [] = refl
-marks-counted (x ∷ xs) = count-step x xs ∙ ap (λ (k : ℕ). cond x 1 0 + k) (marks-counted xs) ∙ sym (upto-next x xs (length xs))
-
-zero-is : (n : ℕ) → n ≤ 0 → 0 ≡ n
-zero-is n le = omega arith
-
-count-past : (p : ℕ → Bool) (n m : ℕ) → n ≤ m → ((j : ℕ) → n ≤ j → p j ≡ false) → count_upto p m ≡ count_upto p n
-count-past p n zero le h = subst (λ (k : ℕ). count_upto p 0 ≡ count_upto p k) (zero-is n le) refl
-count-past p n (suc m) le h = elim (cases_eq n (suc m)) [
-  | inl e ↦ ap (count_upto p) (sym e)
-  | inr ne ↦
-      ap (λ (b : Bool). count_upto p m + (if b then 1 else 0)) (h m (omega (arith, le, ne)))
-      ∙ omega (arith, count-past p n m (omega (arith, le, ne)) h)
-]
-
-count-same : (p q : ℕ → Bool) (n : ℕ) → ((j : ℕ) → j < n → p j ≡ q j) → count_upto p n ≡ count_upto q n
-count-same p q zero h = refl
-count-same p q (suc n) h =
-    ap (λ (k : ℕ). k + (if p n then 1 else 0)) (count-same p q n (λ j lt. h j (omega arith))) ∙ ap (λ (b : Bool). count_upto q n + (if b then 1 else 0)) (h n (omega arith))
-
-past-end : (xs : List Bool) (j : ℕ) → length xs ≤ j → get_or xs j false ≡ false
-past-end [] j le = refl
-past-end (x ∷ xs) zero le = absurd (omega (arith, le))
-past-end (x ∷ xs) (suc j) le = past-end xs j (omega (arith, le))
-
--- a group is lost where two of its disks are out
-pub lost-is : (group : Group) → is_lost group ≡ nat_le 2 (count_upto (out_of (Some group)) group.disks)
-lost-is group =
-    let most = length group.out + group.disks in
-    let all : count_upto (is_out group) (length group.out) ≡ count_upto (is_out group) most =
-    sym (count-past (is_out group) (length group.out) most (omega arith) (past-end group.out)) in
-    let own : count_upto (is_out group) most ≡ count_upto (is_out group) group.disks = count-past (is_out group) group.disks most (omega arith) group.beyond in
-    ap (nat_le 2) (marks-counted group.out ∙ all ∙ own
-    ∙ count-same (is_out group) (out_of (Some group)) group.disks (λ j lt. sym (ap (λ (b : Bool). b && is_out group j) (lt-true j group.disks lt))))
+use Rattle.dg_parity.specs.DiskLaws.{lost_is}
+use Rattle.dg_parity.specs.TellLaws.{both_true}
 
 -- ---- a call on disk j
 
@@ -86,8 +45,9 @@ module _ {S : Type 0} (rack : Ghosts S) (s j : ℕ) (old new : List Group) (a b 
     | inr ne ↦ others called r ne
   ]
 
-  one-disk : FallBut rack j a b before now → OneDisk s j (states_in rack old before) (states_in rack new now)
-  one-disk fall = record {
+  one-disk : (n : ℕ) → FallBut rack j a b before now → OneDisk s j (states_in rack n old before) (states_in rack n new now)
+  one-disk n fall = record {
+    same_groups = record { width = refl; count = sets.count };
     rise = rise-at called;
     cause = λ t i far in0 out. cause-at called t i
         (λ e in1 out1. fall.cause i (below t i (e ∙ half) out) (far (e ∙ half)) in1 out1) in0 out;
@@ -96,23 +56,36 @@ module _ {S : Type 0} (rack : Ghosts S) (s j : ℕ) (old new : List Group) (a b 
       | inl e ↦
           let parts = and_parts (nat_lt i a.disks) (is_out a i) (subst (λ (o : Option Group). out_of o i ≡ true) (ap (slice_get old) e ∙ sets.was) out) in
           subst (λ (o : Option Group). out_of o i ≡ true) (sym (ap (slice_get new) e ∙ sets.is))
-          (both-true (nat_lt i b.disks) (is_out b i) (ap (nat_lt i) turns.disks ∙ parts.0) (fall.stays i (far e) parts.1))
+          (both_true (nat_lt i b.disks) (is_out b i) (ap (nat_lt i) turns.disks ∙ parts.0) (fall.stays i (far e) parts.1))
     ];
   } where
     below : (t i : ℕ) → t ≡ s → out_of (slice_get new t) i ≡ true → i < a.disks
     below t i e out = subst (λ (k : ℕ). i < k) turns.disks
         (lt-of i b.disks (and_parts (nat_lt i b.disks) (is_out b i) (subst (λ (o : Option Group). out_of o i ≡ true) (ap (slice_get new) e ∙ sets.is) out)).0)
 
-  pub steps-on : FallBut rack j a b before now → Told IsSame (bytes_in rack a before) (bytes_in rack b now) → StepsOn rack s j old new before now
-  steps-on fall told = record {
+  lost-at : (n : ℕ) → is_group_lost a.disks (states_in rack n new now).out s ≡ is_lost b
+  lost-at n = ap (λ (o : Option Group). nat_le 2 (count_upto (out_of o) a.disks)) sets.is ∙ ap (λ (n : ℕ). nat_le 2 (count_upto (out_of (Some b)) n)) (sym turns.disks) ∙ sym (lost_is b)
+
+  pub steps-on : FallBut rack j a b before now → Told IsSame (bytes_in rack a before) (bytes_in rack b now) → (is_lost a ≡ true → is_lost b ≡ true) → StepsOn rack s j old new before now
+  steps-on fall told lost-on = record {
     kept = record { each = new-each called };
     count = sets.count;
     widths = width-at called;
     same = same-all told;
     tells = tells called;
-    one = one-disk fall;
+    may = may called;
+    one = λ n. one-disk n fall;
     same_rack = turns.leaves.same_rack;
-  }
+    alike = alike called;
+    unmade = unmade-at called;
+    serves_on = λ n wide served.
+        let disks : a.disks ≡ n = sym (ap width_of sets.was) ∙ wide s sets.below in
+        let alive : is_lost b ≡ false = sym (lost-at n) ∙ ap (λ (k : ℕ). is_group_lost k (states_in rack n new now).out s) disks ∙ served in
+        serves-is called ∙ ap not alive ∙ sym (ap not (was-alive alive)) ∙ sym (serves-was called);
+    behind = behind-at called;
+  } where
+    was-alive : is_lost b ≡ false → is_lost a ≡ false
+    was-alive alive = elim (cases_Bool (is_lost a)) [ inr alive0 ↦ alive0 | inl lost ↦ absurd (false≢true (sym alive ∙ lost-on lost)) ]
 
   -- ---- what is asked of the disks is asked of the group
 
@@ -121,9 +94,6 @@ module _ {S : Type 0} (rack : Ghosts S) (s j : ℕ) (old new : List Group) (a b 
 
   out-is : j < a.disks → out_of (slice_get new s) j ≡ is_out b j
   out-is lt = ap (λ (o : Option Group). out_of o j) sets.is ∙ ap (λ (k : Bool). k && is_out b j) (ap (nat_lt j) turns.disks ∙ lt-true j a.disks lt)
-
-  lost-at : is_group_lost a.disks (states_in rack new now).out s ≡ is_lost b
-  lost-at = ap (λ (o : Option Group). nat_le 2 (count_upto (out_of o) a.disks)) sets.is ∙ ap (λ (n : ℕ). nat_le 2 (count_upto (out_of (Some b)) n)) (sym turns.disks) ∙ sym (lost-is b)
 
   rose-at : j < a.disks → Rose ((rack.counts before).faults (disk_number a.number j)) ((rack.counts now).faults (disk_number a.number j))
       → Rose (faults_of (rack.counts before) (slice_get old s) j) (faults_of (rack.counts now) (slice_get new s) j)
@@ -135,8 +105,10 @@ module _ {S : Type 0} (rack : Ghosts S) (s j : ℕ) (old new : List Group) (a b 
       ∙ faults-in a (rack.counts now) j (lt-true j a.disks lt))) rose)
 
   -- a group that is as it was leaves the disks as they were
-  states-same : (b ≡ a) × (now ≡ before) → states_in rack new now ≡ states_in rack old before
-  states-same still = λ i. record {
+  states-same : (n : ℕ) → (b ≡ a) × (now ≡ before) → states_in rack n new now ≡ states_in rack n old before
+  states-same n still = λ i. record {
+    width = Some n;
+    groups = sets.count i;
     out = λ t k. out_of (group-same t i) k;
     faults = λ t k. faults_of (rack.counts (still.1 i)) (group-same t i) k;
   } where
@@ -147,27 +119,28 @@ module _ {S : Type 0} (rack : Ghosts S) (s j : ℕ) (old new : List Group) (a b 
     ]
 
   pub drops-disk : (answer : DropAnswer) → j < a.disks → is_out b j ≡ true → ((answer ≡ Already) ↔ (is_out a j ≡ true)) → ((lost : Bool) → answer ≡ Dropped lost → lost ≡ is_lost b)
-      → DropsDisk a.disks s j (states_in rack old before) (states_in rack new now) answer
-  drops-disk answer lt out already lost = record {
+      → (is_out a j ≡ true → (b ≡ a) × (now ≡ before)) → DropsDisk a.disks s j (states_in rack a.disks old before) (states_in rack a.disks new now) answer
+  drops-disk answer lt out already lost still = record {
     already = (λ h. out-was lt ∙ already.0 h, λ h. already.1 (sym (out-was lt) ∙ h));
+    idle = λ h. states-same a.disks (still (already.0 h));
     out = out-is lt ∙ out;
-    dropped = λ b1 h. lost b1 h ∙ sym lost-at;
+    dropped = λ b1 h. lost b1 h ∙ sym (lost-at a.disks);
   }
 
   pub mends-disk : (answer : MendAnswer) → j < a.disks → ((answer ≡ Lost) ↔ (is_lost b ≡ true)) → ((answer ≡ NotOut) ↔ ((is_lost b ≡ false) × (is_out a j ≡ false)))
       → (answer ≡ Failed → Rose ((rack.counts before).faults (disk_number a.number j)) ((rack.counts now).faults (disk_number a.number j)))
       → ((c : ℕ) → answer ≡ Mended c → (is_out a j ≡ true) × (is_out b j ≡ false)) → (is_out a j ≡ false → (b ≡ a) × (now ≡ before))
-      → MendsDisk a.disks s j (states_in rack old before) (states_in rack new now) answer
+      → MendsDisk a.disks s j (states_in rack a.disks old before) (states_in rack a.disks new now) answer
   mends-disk answer lt lost not_out failed mended still = record {
-    lost = (λ h. lost-at ∙ lost.0 h, λ h. lost.1 (sym lost-at ∙ h));
+    lost = (λ h. lost-at a.disks ∙ lost.0 h, λ h. lost.1 (sym (lost-at a.disks) ∙ h));
     not_out = (
-      λ h. let is = not_out.0 h in (lost-at ∙ is.0, out-was lt ∙ is.1),
-      λ h. not_out.1 (sym lost-at ∙ h.0, sym (out-was lt) ∙ h.1),
+      λ h. let is = not_out.0 h in (lost-at a.disks ∙ is.0, out-was lt ∙ is.1),
+      λ h. not_out.1 (sym (lost-at a.disks) ∙ h.0, sym (out-was lt) ∙ h.1),
     );
     failed = λ h. rose-at lt (failed h);
     mended = λ c h. let is = mended c h in (out-was lt ∙ is.0, out-is lt ∙ is.1);
-    idle = λ h. states-same (still (not_out.0 h).1);
-    cause = λ in0 out. absurd (false≢true (sym in0 ∙ sym (ap (λ (disks : DiskStates). disks.out s j) (states-same (still (sym (out-was lt) ∙ in0)))) ∙ out));
+    idle = λ h. states-same a.disks (still (not_out.0 h).1);
+    cause = λ in0 out. absurd (false≢true (sym in0 ∙ sym (ap (λ (disks : DiskStates). disks.out s j) (states-same a.disks (still (sym (out-was lt) ∙ in0)))) ∙ out));
   }
 
 -- ---- what the calls on a disk say of the group
@@ -185,8 +158,9 @@ idle-told {S = S} rack a b before now same = subst (λ (k : Group). Told IsSame 
 
 pub drop-turns : {S : Type 0} (rack : Ghosts S) (s j : ℕ) (a b : Group) (before now : S) (answer : DropAnswer) → IsGroupOf rack s a before → IsStill a b → IsKept rack b now
     → LeavesOthers rack a before now → (is_out a j ≡ true → (b ≡ a) × (now ≡ before)) → ((answer ≡ Already) ↔ (is_out a j ≡ true)) → ((lost : Bool) → answer ≡ Dropped lost → lost ≡ is_lost b)
-    → answer ≢ Plain → (answer ≡ Dropped true → b.told ≡ false) → (a.told ≡ true → is_lost b ≡ false → b.told ≡ true) → Turns rack a b before now
-drop-turns rack s j a b before now answer of still kept leaves idle already lost parity silent telling = record {
+    → answer ≢ Plain → (answer ≡ Dropped true → b.told ≡ false) → (a.told ≡ true → is_lost b ≡ false → b.told ≡ true) → b.remade ≡ a.remade → (is_lost a ≡ true → is_lost b ≡ true)
+    → Turns rack a b before now
+drop-turns rack s j a b before now answer of still kept leaves idle already lost parity silent telling remade lost-on = record {
   number = still.number;
   disks = still.disks;
   told = still.told;
@@ -196,6 +170,13 @@ drop-turns rack s j a b before now answer of still kept leaves idle already lost
   bare = λ gone told. elim (cases_Bool (is_out a j)) [
     | inl out ↦ ap (λ (k : Group). k.length) (idle out).0
         ∙ of.bare (sym (ap is_lost (idle out).0) ∙ gone) (sym (ap (λ (k : Group). k.told) (idle out).0) ∙ told)
+    | inr in0 ↦ absurd (false≢true (sym (fallen j a b answer already lost parity silent in0 gone) ∙ told))
+  ];
+  may = may-back rack s a b before of remade still.told;
+  still = still-on rack s a b before of remade still.told;
+  speaks = speaks-on rack s a b before of remade still.told lost-on telling;
+  unmade = λ gone told. elim (cases_Bool (is_out a j)) [
+    | inl out ↦ sym (ap is_lost (idle out).0) ∙ gone
     | inr in0 ↦ absurd (false≢true (sym (fallen j a b answer already lost parity silent in0 gone) ∙ told))
   ];
   leaves = leaves;

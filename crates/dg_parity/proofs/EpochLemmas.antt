@@ -15,11 +15,11 @@ use Rattle.dg_parity.specs.declared.groups.Group.{Group}
 use Rattle.dg_parity.specs.declared.headers.Header.{Header}
 use Rattle.dg_parity.proofs.GroupLemmas.{numbers-along, told-at}
 use Rattle.dg_parity.proofs.KeptLemmas.{kept-of, kept-stands, stands-is}
-use Rattle.dg_parity.proofs.KeptSteps.{each-told}
 use Rattle.dg_parity.proofs.OpenedLemmas.{some-not, front-there}
 use Rattle.dg_parity.proofs.PageLemmas.{own_numbers, read_back, HasNumbers, same_fields}
 use Rattle.dg_parity.proofs.MarkLemmas.{marked, marks-below}
 use Rattle.dg_parity.proofs.PartLemmas.{others-in}
+use Rattle.dg_parity.specs.TellLaws.{each_told}
 
 -- ---- what an opening takes from bytes is one header at most
 
@@ -227,7 +227,7 @@ pub tells-again : {S : Type 0} (rack : Ghosts S) (group next : Group) (left now 
     → StandsFor rack next now (member_by group.disks group.length (made_by rack group left)) → bytes_in rack next now ≡ bytes_in rack group left
 tells-again rack group next left now alive same told all stands =
     some-if next.told (all_told rack next now) group.told (all_told rack group left) (member_by next.disks next.length (made_by rack next now)) (member_by group.disks group.length (made_by rack group left)) same
-    (each-told rack next now all) (each-told rack group left told) (sym (stands-is rack next now (member_by group.disks group.length (made_by rack group left)) next.least alive stands))
+    (each_told rack next now all) (each_told rack group left told) (sym (stands-is rack next now (member_by group.disks group.length (made_by rack group left)) next.least alive stands))
 
 pub reads-on : {S : Type 0} (rack : Ghosts S) (group next : Group) (left before now : S) → is_lost group ≡ false → IsKept rack group left → AllTold rack group left → IsLeft rack group left now
     → IsReopened rack group next before now → IsReady rack next now → is_lost next ≡ false → next.told ≡ group.told

@@ -21,11 +21,12 @@ use Rattle.dg_parity.proofs.ExclusiveLemmas.{xor-same}
 use Rattle.dg_parity.proofs.MarkLemmas.{alive-again}
 use Rattle.dg_parity.proofs.GroupLemmas.{heads-numbered, in-before, later-same, later-then, other-disk, rose-later, rose-sooner, same-self, same-then, told-at}
 use Rattle.dg_parity.proofs.HoldLemmas.{length-told}
-use Rattle.dg_parity.proofs.KeptLemmas.{kept-of, kept-stands, stands-is, told-each}
-use Rattle.dg_parity.proofs.KeptSteps.{both-true, each-told, told-if}
+use Rattle.dg_parity.proofs.KeptLemmas.{kept-of, kept-stands, stands-is}
+use Rattle.dg_parity.proofs.KeptSteps.{told-if}
 use Rattle.dg_parity.proofs.MemberLemmas.{member-at, member-length}
 use Rattle.dg_parity.proofs.MemberSteps.{stands-length, stands-noted}
 use Rattle.dg_parity.proofs.StripeLemmas.{spot-in}
+use Rattle.dg_parity.specs.TellLaws.{both_true, each_told, told_each}
 
 -- ---- all disks
 
@@ -175,9 +176,9 @@ stretched-bytes n a b has least le clear =
 -- ---- the group
 
 -- the group is to have another length (mid), and its disks were made longer (new)
-pub grows-of : {S : Type 0} (rack : Ghosts S) (size n : ℕ) (old mid new : Group) (s t : S) → IsRestarted old mid → mid.length ≡ size → n ≡ disk_length mid.disks size → old.length ≤ size
+pub grows-of : {S : Type 0} (rack : Ghosts S) (size n : ℕ) (old mid new : Group) (s t : S) → IsRestarted old mid → mid.length ≡ size → mid.remade ≡ old.remade → n ≡ disk_length mid.disks size → old.length ≤ size
     → IsReady rack old s → IsExtended rack n mid new s t mid.disks → GrowsTo rack size old new s t
-grows-of rack size n old mid new s t again is long le ready h =
+grows-of rack size n old mid new s t again is made long le ready h =
     let number : new.number ≡ old.number = h.later.number ∙ again.number in
     let disks : new.disks ≡ old.disks = h.later.disks ∙ again.disks in
     let own : (j : ℕ) → disk_number mid.number j ≡ disk_number old.number j = λ j. ap (λ (k : ℕ). disk_number k j) again.number in
@@ -192,6 +193,7 @@ grows-of rack size n old mid new s t again is long le ready h =
       told = λ e. sym again.told ∙ h.later.told e;
       telling = λ e alive. h.later.telling (again.told ∙ e) alive;
       sure = h.later.sure ∙ again.sure;
+      remade = h.later.remade ∙ made;
       ready = record {
         first = λ noted. absurd (false≢true (sym h.renewed ∙ noted));
         stands = λ j lt in0. subst (λ (k : ℕ). rack.stands t (disk_number k j) ≡ true) (sym h.later.number) (h.stands j (subst (λ (k : ℕ). j < k) h.later.disks lt) in0);
@@ -268,9 +270,9 @@ module _ {S : Type 0} (rack : Ghosts S) (size : ℕ) (old mid new : Group) (s t 
   longer-told in0 =
       told-if (Extended size) (old.told && all_told rack old s) (new.told && all_told rack new u) _ _
       (λ e. let parts = and_parts new.told (all_told rack new u) e in
-      both-true old.told (all_told rack old s) (grows.told (leaves.later.told parts.0)) (each-told rack old s (told-first (told-each rack new u parts.1))))
+      both_true old.told (all_told rack old s) (grows.told (leaves.later.told parts.0)) (each_told rack old s (told-first (told_each rack new u parts.1))))
       (λ e. let parts = and_parts new.told (all_told rack new u) e in
-      sym (stands-is rack new u (bytes ++ replicate (size - length bytes) 0) new.least in0 (stands-last (told-each rack new u parts.1))))
+      sym (stands-is rack new u (bytes ++ replicate (size - length bytes) 0) new.least in0 (stands-last (told_each rack new u parts.1))))
 
   pub longer-leaves : LeavesOthers rack old s u
   longer-leaves = others-then rack old s t u grows.leaves (others-named rack old mid t u grows.number grows.disks (others-of rack mid new t u leaves))

@@ -12,8 +12,8 @@ use Rattle.dg_parity.specs.Updates.{CallsLeast, CallsWithHeaders}
 use Rattle.dg_parity.specs.declared.groups.Group.{Group}
 use Rattle.dg_parity.proofs.ArrayLemmas.{IsCalled, SetsAt, Turns, group-odd, group-own}
 use Rattle.dg_parity.proofs.ArraySteps.{all-told, tells-bytes}
-use Rattle.dg_parity.proofs.KeptLemmas.{told-each}
 use Rattle.dg_parity.proofs.ReadsOnLemmas.{not-lost, out-is}
+use Rattle.dg_parity.specs.TellLaws.{told_each}
 
 if-true : (b : Bool) (x : List ℕ) → IsSome (if b then Some x else None) → b ≡ true
 if-true true x h = refl
@@ -27,7 +27,7 @@ tells-group : {S : Type 0} (rack : Ghosts S) (s n : ℕ) (a b : Group) (before n
     → IsSome (bytes_in rack a before) → DisksTell rack now n s → IsSome (bytes_in rack b now)
 tells-group rack s n a b before now number disks sure telling some tell =
     let parts = and_parts a.told (all_told rack a before) (if-true (a.told && all_told rack a before) (member_by a.disks a.length (made_by rack a before)) some) in
-    let all = all-told rack b now s number (sure ∙ (told-each rack a before parts.1).0) (subst (λ (k : ℕ). DisksTell rack now k s) (sym disks) tell) in
+    let all = all-told rack b now s number (sure ∙ (told_each rack a before parts.1).0) (subst (λ (k : ℕ). DisksTell rack now k s) (sym disks) tell) in
     subst (λ (o : Option (List ℕ)). IsSome o) (sym (tells-bytes rack b now (telling parts.0) all)) refl
 
 same-tells : {S : Type 0} (rack : Ghosts S) (s : ℕ) (groups : List Group) (before now : S) (o : Option Group) → AreKept rack groups before → slice_get groups s ≡ o → is_served o ≡ true

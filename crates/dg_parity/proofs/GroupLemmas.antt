@@ -72,7 +72,7 @@ rise-then a b c f s = record {
 -- ---- one call, and calls one after the other
 
 pub later-same : (group : Group) → IsLater group group
-later-same group = record { number = refl; disks = refl; size = refl; grows = λ j h. h; epoch = omega arith; told = λ h. h; telling = λ h alive. h; sure = refl }
+later-same group = record { number = refl; disks = refl; size = refl; grows = λ j h. h; epoch = omega arith; told = λ h. h; telling = λ h alive. h; sure = refl; remade = refl }
 
 pub later-then : (a b c : Group) → IsLater a b → IsLater b c → IsLater a c
 later-then a b c f s = record {
@@ -84,6 +84,7 @@ later-then a b c f s = record {
   told = λ h. f.told (s.told h);
   telling = λ h alive. s.telling (f.telling h (alive-again b c s.grows alive)) alive;
   sure = s.sure ∙ f.sure;
+  remade = s.remade ∙ f.remade;
 }
 
 pub same-length : (old new : Group) → IsLater old new → length_of old ≡ length_of new
@@ -223,6 +224,7 @@ alike-later old new h epoch = record {
   told = λ e. sym h.told ∙ e;
   telling = λ e alive. h.told ∙ e;
   sure = h.sure;
+  remade = h.remade;
 }
 
 alike-in : (old new : Group) (j : ℕ) → IsAlike old new → is_out new j ≡ false → is_out old j ≡ false

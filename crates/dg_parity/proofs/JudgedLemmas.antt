@@ -27,6 +27,7 @@ judged fronts n s old new h = record {
   within = h.within;
   noted = h.noted;
   told = h.told;
+  remade = h.remade;
 }
 
 pub judged-opened : {S : Type 0} (rack : Ghosts S) (now : S) (fronts : ℕ → Option Header) (n s : ℕ) (old new : Group) → IsOpened fronts n s old → IsJudged old new
@@ -49,6 +50,8 @@ made-group rack fronts n s group before now most found h = record {
     clear = λ alive all. (sound-of rack group now (sym h.sure ∙ all.0)).1;
   };
   bare = λ lost told. absurd (false≢true (sym (h.by.told ∙ ap not lost) ∙ told));
+  still = λ told. h.by.remade;
+  telling = λ alive made. h.by.told ∙ ap not alive;
 }
 
 unmade-group : {S : Type 0} (rack : Ghosts S) (n s : ℕ) (group : Group) (now : S) → IsUnmade n s group → IsGroupOf rack s group now
@@ -61,6 +64,8 @@ unmade-group rack n s group now h = record {
     clear = λ alive. absurd (false≢true (sym alive ∙ h.lost));
   };
   bare = λ lost told. h.size;
+  still = λ told. h.remade;
+  telling = λ alive made. h.told;
 }
 
 opened-group : {S : Type 0} (rack : Ghosts S) (fronts : ℕ → Option Header) (n s : ℕ) (group : Group) (before now : S) → n ≤ 8

@@ -1,28 +1,17 @@
 -- What a group tells and what it stands for are one.
-use Rattle.std.proofs.Common.{◌≡◌, ◌≢◌, ℕ, zero, suc, ◌<◌, ◌≤◌, inl, inr, Bool, true, false, List, refl, sym, ap, subst, ◌∙◌, arith}
-use Rattle.std.specs.Prelude.{is_some, slice_index, if◌then◌else◌}
-use Rattle.std.proofs.lemmas.Bool.{cases_eq, cases_Bool, false≢true, and_parts}
+use Rattle.std.proofs.Common.{◌≡◌, ◌≢◌, ℕ, ◌<◌, ◌≤◌, inl, inr, Bool, true, false, List, refl, sym, ap, subst, ◌∙◌}
+use Rattle.std.specs.Prelude.{slice_index, if◌then◌else◌}
+use Rattle.std.proofs.lemmas.Bool.{cases_eq, cases_Bool, false≢true}
 use Rattle.dg_io.specs.declared.outside.Rack.{Ghosts}
 use Rattle.dg_parity.specs.Exclusive.{xor_upto, with_at}
 use Rattle.dg_parity.specs.Stripes.{InStripes, IsClear, IsEven, member_by, made_up, spot_of}
-use Rattle.dg_parity.specs.Groups.{disk_number, is_out, is_lost, is_sure, disk_in, AllTold, AreNumbered, Holds, IsReady, StandsFor}
-use Rattle.dg_parity.specs.Kept.{all_upto, all_told, made_by, IsKept}
+use Rattle.dg_parity.specs.Groups.{is_out, is_lost, disk_in, AllTold, AreNumbered, Holds, IsReady, StandsFor}
+use Rattle.dg_parity.specs.Kept.{made_by, IsKept}
 use Rattle.dg_parity.specs.declared.groups.Group.{Group}
 use Rattle.dg_parity.proofs.ExclusiveLemmas.{xor-same, xor-others, with-same, with-other}
 use Rattle.dg_parity.proofs.MemberLemmas.{member-same}
 use Rattle.dg_parity.proofs.PartLemmas.{others-in}
 use Rattle.dg_parity.proofs.StripeLemmas.{disk-below, spot-in}
-
-pub upto-each : (p : ℕ → Bool) (n j : ℕ) → all_upto p n ≡ true → j < n → p j ≡ true
-upto-each p zero j h lt = absurd (omega arith)
-upto-each p (suc n) j h lt =
-    let parts = and_parts (all_upto p n) (p n) h in
-    elim (cases_eq j n) [ inl e ↦ ap p e ∙ parts.1 | inr ne ↦ upto-each p n j parts.0 (omega arith) ]
-
-pub told-each : {S : Type 0} (rack : Ghosts S) (group : Group) (now : S) → all_told rack group now ≡ true → AllTold rack group now
-told-each rack group now h =
-    let parts = and_parts (is_sure group) (all_upto (λ i. is_some (rack.bytes now (disk_number group.number i))) group.disks) h in
-    (parts.0, λ j lt. upto-each (λ i. is_some (rack.bytes now (disk_number group.number i))) group.disks j parts.1 lt)
 
 pub out-made : (n : ℕ) (out : ℕ → Bool) (disks : ℕ → List ℕ) (j x : ℕ) → out j ≡ true → made_up n out disks j x ≡ xor_upto (with_at (λ i. slice_index (disks i) x) j 0) n
 out-made n out disks j x e = ap (λ (b : Bool). if b then xor_upto (with_at (λ i. slice_index (disks i) x) j 0) n else slice_index (disks j) x) e

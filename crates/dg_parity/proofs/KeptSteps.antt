@@ -1,31 +1,20 @@
 -- What a group tells, after calls on it.
-use Rattle.std.proofs.Common.{◌≡◌, ℕ, zero, suc, ◌+◌, ◌-◌, ◌<◌, ◌≤◌, Bool, true, false, List, length, drop, refl, sym, ap, subst, ◌∙◌, arith}
-use Rattle.std.specs.Prelude.{IfSome, None, Some, is_some, slice_index, slice_range, ◌&&◌, if◌then◌else◌}
+use Rattle.std.proofs.Common.{◌≡◌, ℕ, ◌+◌, ◌-◌, ◌<◌, ◌≤◌, Bool, true, false, List, length, drop, refl, sym, ap, subst, ◌∙◌, arith}
+use Rattle.std.specs.Prelude.{IfSome, None, Some, slice_index, slice_range, ◌&&◌, if◌then◌else◌}
 use Rattle.std.proofs.lemmas.Bool.{false≢true, and_parts}
 use Rattle.std.proofs.lemmas.List.{ext_get_or, get_or-take, get_or-drop, length-take-le, length-drop}
 use Rattle.dg_io.specs.Told.{Told, IsSame, Reads}
 use Rattle.dg_io.specs.declared.outside.Rack.{Ghosts}
 use Rattle.dg_parity.specs.Stripes.{member_by}
 use Rattle.dg_parity.specs.Groups.{disk_number, is_lost, length_of, bytes_of, AllTold, IsReady, Holds, StandsFor, IsLater, LeavesGroup}
-use Rattle.dg_parity.specs.Kept.{all_upto, all_told, made_by, bytes_in, IsKept}
+use Rattle.dg_parity.specs.Kept.{all_told, made_by, bytes_in, IsKept}
 use Rattle.dg_parity.specs.declared.groups.Group.{Group}
 use Rattle.dg_parity.proofs.GroupLemmas.{told-before, in-before, numbers-later, same-length, same-then}
 use Rattle.dg_parity.proofs.HoldLemmas.{range-before}
 use Rattle.dg_parity.proofs.MemberSteps.{stands-along}
 use Rattle.dg_parity.proofs.CallLemmas.{told-back}
-use Rattle.dg_parity.proofs.KeptLemmas.{told-each, kept-of, kept-stands, stands-is}
-
-pub each-upto : (p : ℕ → Bool) (n : ℕ) → ((j : ℕ) → j < n → p j ≡ true) → all_upto p n ≡ true
-each-upto p zero h = refl
-each-upto p (suc n) h = ap (λ (b : Bool). b && p n) (each-upto p n (λ j lt. h j (omega arith))) ∙ h n (omega arith)
-
-pub each-told : {S : Type 0} (rack : Ghosts S) (group : Group) (now : S) → AllTold rack group now → all_told rack group now ≡ true
-each-told rack group now h =
-    ap (λ (b : Bool). b && all_upto (λ i. is_some (rack.bytes now (disk_number group.number i))) group.disks) h.0
-    ∙ each-upto (λ i. is_some (rack.bytes now (disk_number group.number i))) group.disks h.1
-
-pub both-true : (b c : Bool) → b ≡ true → c ≡ true → (b && c) ≡ true
-both-true b c e f = ap (λ (x : Bool). x && c) e ∙ f
+use Rattle.dg_parity.proofs.KeptLemmas.{kept-of, kept-stands, stands-is}
+use Rattle.dg_parity.specs.TellLaws.{both_true, each_told, told_each}
 
 pub told-if : (step : List ℕ → List ℕ → Type 0) (b c : Bool) (x y : List ℕ) → (c ≡ true → b ≡ true) → (c ≡ true → step x y)
     → Told step (if b then Some x else None) (if c then Some y else None)
@@ -39,7 +28,7 @@ pub told-sooner : {S : Type 0} (rack : Ghosts S) (old new : Group) (s t : S) →
     → (new.told && all_told rack new t) ≡ true → (old.told && all_told rack old s) ≡ true
 told-sooner rack old new s t leaves told h =
     let parts = and_parts new.told (all_told rack new t) h in
-    both-true old.told (all_told rack old s) (told parts.0) (each-told rack old s (told-back rack old new s t leaves (told-each rack new t parts.1)))
+    both_true old.told (all_told rack old s) (told parts.0) (each_told rack old s (told-back rack old new s t leaves (told_each rack new t parts.1)))
 
 -- the calls kept what the group stands for
 pub kept-along : {S : Type 0} (rack : Ghosts S) (old new : Group) (s t : S) → is_lost old ≡ false → IsKept rack old s → LeavesGroup rack old new s t
@@ -57,7 +46,7 @@ pub told-along : {S : Type 0} (rack : Ghosts S) (old new : Group) (s t : S) (ste
     → Told step (bytes_in rack old s) (bytes_in rack new t)
 told-along rack old new s t step least alive0 alive kept leaves told f stands steps =
     told-if step (old.told && all_told rack old s) (new.told && all_told rack new t) _ _ (told-sooner rack old new s t leaves told) (λ h.
-    let all = told-each rack new t (and_parts new.told (all_told rack new t) h).1 in
+    let all = told_each rack new t (and_parts new.told (all_told rack new t) h).1 in
     let bytes = member_by old.disks old.length (made_by rack old s) in
     let before = kept-stands rack old s alive0 kept (told-back rack old new s t leaves all) in
     let is : f bytes ≡ member_by new.disks new.length (made_by rack new t) = stands-is rack new t (f bytes) (subst (λ (n : ℕ). 3 ≤ n) (sym leaves.later.disks) least) alive (stands bytes all before) in
@@ -113,11 +102,11 @@ pub marked-told : {S : Type 0} (rack : Ghosts S) (old mid : Group) (now : S) →
 marked-told rack old mid now least alive0 alive later kept =
     told-if IsSame (old.told && all_told rack old now) (mid.told && all_told rack mid now) _ _
     (λ h. let parts = and_parts mid.told (all_told rack mid now) h in
-    both-true old.told (all_told rack old now) (later.told parts.0) (each-told rack old now (told-number rack old mid now later (told-each rack mid now parts.1))))
+    both_true old.told (all_told rack old now) (later.told parts.0) (each_told rack old now (told-number rack old mid now later (told_each rack mid now parts.1))))
     (λ h. let parts = and_parts mid.told (all_told rack mid now) h in
     let bytes = member_by old.disks old.length (made_by rack old now) in
     sym (stands-is rack mid now bytes (subst (λ (n : ℕ). 3 ≤ n) (sym later.disks) least) alive
-    (marked-stands rack old mid now bytes later (kept-stands rack old now alive0 kept (told-number rack old mid now later (told-each rack mid now parts.1))))))
+    (marked-stands rack old mid now bytes later (kept-stands rack old now alive0 kept (told-number rack old mid now later (told_each rack mid now parts.1))))))
 
 -- and then headers are written
 pub dropped-kept : {S : Type 0} (rack : Ghosts S) (old mid new : Group) (s t : S) → is_lost old ≡ false → is_lost mid ≡ false → IsLater old mid → mid.noted ≡ false → IsKept rack old s → LeavesGroup rack mid new s t

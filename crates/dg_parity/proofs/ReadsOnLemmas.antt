@@ -13,14 +13,16 @@ use Rattle.dg_parity.specs.Sound.{is_sound}
 use Rattle.dg_parity.specs.Stripes.{member_by}
 use Rattle.dg_parity.specs.declared.groups.Group.{Group}
 use Rattle.dg_parity.specs.declared.parity_racks.ParityRack.TheVariants.{Plain, OfGroups}
-use Rattle.dg_parity.proofs.ArraySteps.{all-told, bare-tells, member-group, member-told, some-at, tells-bytes}
+use Rattle.dg_parity.proofs.ArraySteps.{all-told, bare-tells, member-told, some-at, tells-bytes}
+use Rattle.dg_parity.specs.DiskLaws.{member_group}
 use Rattle.dg_parity.proofs.EpochLemmas.{same-numbers, stands-again, tells-again}
 use Rattle.dg_parity.proofs.GroupLemmas.{same-then, told-at}
 use Rattle.dg_parity.proofs.JudgedLemmas.{opened-at}
-use Rattle.dg_parity.proofs.KeptLemmas.{kept-stands, stands-clear, stands-even, told-each}
+use Rattle.dg_parity.proofs.KeptLemmas.{kept-stands, stands-clear, stands-even}
 use Rattle.dg_parity.proofs.MarkLemmas.{alive-again}
 use Rattle.dg_parity.proofs.PartLemmas.{both-in}
 use Rattle.dg_parity.proofs.SoundLemmas.{is-below, not-below, sound-is}
+use Rattle.dg_parity.specs.TellLaws.{told_each}
 
 pub out-is : (group : Group) (j : ℕ) → out_of (Some group) j ≡ is_out group j
 out-is group j = elim (cases_lt j group.disks) [
@@ -88,7 +90,7 @@ module _ {R : Type 0} (rack : Ghosts R) where
   again-tells : (s n : ℕ) (left before now : R) (group next : Group) → Again s n left before now group next → IsSome (bytes_in rack group left) → bytes_in rack next now ≡ bytes_in rack group left
   again-tells s n left before now group next h some =
       let parts = and_parts group.told (all_told rack group left) (if-some (group.told && all_told rack group left) (member_by group.disks group.length (made_by rack group left)) some) in
-      let all : AllTold rack group left = told-each rack group left parts.1 in
+      let all : AllTold rack group left = told_each rack group left parts.1 in
       let stays : (j : ℕ) → is_out group j ≡ true → is_out next j ≡ true = λ j out. elim (cases_Bool (is_out next j)) [
         | inl out2 ↦ out2
         | inr in0 ↦ absurd (false≢true (sym (h.ins j in0) ∙ out))
@@ -130,7 +132,7 @@ module _ {R : Type 0} (rack : Ghosts R) where
     is = (some-at new.groups s few).1
 
     alive : is_lost next ≡ false
-    alive = not-lost (is_lost next) (sym (ap is_served (member-group new.groups s ∙ is)) ∙ back.served)
+    alive = not-lost (is_lost next) (sym (ap is_served (member_group new.groups s ∙ is)) ∙ back.served)
 
     ins : (j : ℕ) → is_out next j ≡ false → is_out group j ≡ false
     ins j in0 =

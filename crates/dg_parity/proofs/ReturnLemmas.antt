@@ -11,10 +11,11 @@ use Rattle.dg_parity.specs.Mends.{FilledTo, LeavesBut}
 use Rattle.dg_parity.specs.declared.groups.Group.{Group}
 use Rattle.dg_parity.proofs.CallLemmas.{told-back}
 use Rattle.dg_parity.proofs.GroupLemmas.{heads-numbered}
-use Rattle.dg_parity.proofs.KeptLemmas.{told-each, kept-of, kept-stands, stands-is}
-use Rattle.dg_parity.proofs.KeptSteps.{each-told, told-if, both-true}
+use Rattle.dg_parity.proofs.KeptLemmas.{kept-of, kept-stands, stands-is}
+use Rattle.dg_parity.proofs.KeptSteps.{told-if}
 use Rattle.dg_parity.proofs.MemberSteps.{stands-along}
 use Rattle.dg_parity.proofs.MendLemmas.{Unmarks, mended-holds, but-back}
+use Rattle.dg_parity.specs.TellLaws.{both_true, each_told, told_each}
 
 -- The disk was filled (old, at t), came back (mid), and headers were written (new, at u).
 pub record Returned {S : Type 0} (rack : Ghosts S) (j : ℕ) (old mid new : Group) (s t u : S) : Type 0 where
@@ -61,9 +62,9 @@ returned-same rack j old mid new s t u least alive0 alive told h kept =
     let disks : new.disks ≡ old.disks = h.leaves.later.disks ∙ h.unmarks.disks in
     told-if IsSame (old.told && all_told rack old s) (new.told && all_told rack new u) _ _
     (λ e. let parts = and_parts new.told (all_told rack new u) e in
-    both-true old.told (all_told rack old s) (sym told ∙ h.leaves.later.told parts.0) (each-told rack old s (returned-told rack j old mid new s t u h (told-each rack new u parts.1))))
+    both_true old.told (all_told rack old s) (sym told ∙ h.leaves.later.told parts.0) (each_told rack old s (returned-told rack j old mid new s t u h (told_each rack new u parts.1))))
     (λ e. let parts = and_parts new.told (all_told rack new u) e in
-    let all = told-each rack new u parts.1 in
+    let all = told_each rack new u parts.1 in
     let bytes = member_by old.disks old.length (made_by rack old s) in
     sym (stands-is rack new u bytes (subst (λ (n : ℕ). 3 ≤ n) (sym disks) least) alive
     (returned-stands rack j old mid new s t u bytes h all (kept-stands rack old s alive0 kept (returned-told rack j old mid new s t u h all)))))
@@ -101,9 +102,9 @@ pub unfilled-same : {S : Type 0} (rack : Ghosts S) (j : ℕ) (old new : Group) (
 unfilled-same rack j old new s t least alive0 alive leaves holds kept =
     told-if IsSame (old.told && all_told rack old s) (new.told && all_told rack new t) _ _
     (λ e. let parts = and_parts new.told (all_told rack new t) e in
-    both-true old.told (all_told rack old s) (leaves.later.told parts.0) (each-told rack old s (but-back rack j old new s t leaves (told-each rack new t parts.1))))
+    both_true old.told (all_told rack old s) (leaves.later.told parts.0) (each_told rack old s (but-back rack j old new s t leaves (told_each rack new t parts.1))))
     (λ e. let parts = and_parts new.told (all_told rack new t) e in
-    let all = told-each rack new t parts.1 in
+    let all = told_each rack new t parts.1 in
     let bytes = member_by old.disks old.length (made_by rack old s) in
     sym (stands-is rack new t bytes (subst (λ (n : ℕ). 3 ≤ n) (sym leaves.later.disks) least) alive
     (stands-along rack old new s t bytes leaves.later (λ has held. holds has all held) (kept-stands rack old s alive0 kept (but-back rack j old new s t leaves all)))))

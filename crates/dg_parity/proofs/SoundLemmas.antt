@@ -11,9 +11,8 @@ use Rattle.dg_parity.specs.Groups.{has_none}
 use Rattle.dg_parity.specs.Kept.{made_by}
 use Rattle.dg_parity.specs.Sound.{doubts_if, is_clear, is_even, is_sound}
 use Rattle.dg_parity.specs.declared.groups.Group.{Group}
-use Rattle.dg_parity.proofs.KeptLemmas.{upto-each}
-use Rattle.dg_parity.proofs.KeptSteps.{both-true, each-upto}
 use Rattle.dg_parity.proofs.StripeLemmas.{spot-behind}
+use Rattle.dg_parity.specs.TellLaws.{both_true, each_upto, upto_each}
 
 pub doubts-none : (b : Bool) → has_none (doubts_if b) ≡ b
 doubts-none true = refl
@@ -48,11 +47,11 @@ is-below x y h = grind (arith, nat_tests)
 pub even-of : (n size : ℕ) (has : ℕ → ℕ → ℕ) → is_even n size has ≡ true → IsEven n size has
 even-of n size has h x range =
     is-zero (xor_upto (λ j. has j x) n)
-    (or-second (nat_lt x 512) (xor_upto (λ j. has j x) n == 0) (upto-each (λ y. nat_lt y 512 || (xor_upto (λ j. has j y) n == 0)) (disk_length n size) x h range.below) (not-below x 512 range.behind))
+    (or-second (nat_lt x 512) (xor_upto (λ j. has j x) n == 0) (upto_each (λ y. nat_lt y 512 || (xor_upto (λ j. has j y) n == 0)) (disk_length n size) x h range.below) (not-below x 512 range.behind))
 
 pub even-is : (n size : ℕ) (has : ℕ → ℕ → ℕ) → IsEven n size has → is_even n size has ≡ true
 even-is n size has h =
-    each-upto (λ x. nat_lt x 512 || (xor_upto (λ j. has j x) n == 0)) (disk_length n size) (λ x lt. elim (cases_lt x 512) [
+    each_upto (λ x. nat_lt x 512 || (xor_upto (λ j. has j x) n == 0)) (disk_length n size) (λ x lt. elim (cases_lt x 512) [
       | inl low ↦ or-first (nat_lt x 512) (xor_upto (λ j. has j x) n == 0) (is-below x 512 low)
       | inr high ↦ or-last (nat_lt x 512) (xor_upto (λ j. has j x) n == 0) (zero-is (xor_upto (λ j. has j x) n) (h x (record { behind = high; below = lt })))
     ])
@@ -80,11 +79,11 @@ pub clear-of : (n size : ℕ) (has : ℕ → ℕ → ℕ) → 3 ≤ n → is_cle
 clear-of n size has least h b behind range =
     is-zero (has (spot_of n b).disk (spot_of n b).place)
     (or-second (nat_lt b size) (has (spot_of n b).disk (spot_of n b).place == 0)
-    (upto-each (λ c. nat_lt c size || (has (spot_of n c).disk (spot_of n c).place == 0)) (stripes_of n size * (n - 1) * 512) b h (in-chunks n size b least range.below)) (not-below b size behind))
+    (upto_each (λ c. nat_lt c size || (has (spot_of n c).disk (spot_of n c).place == 0)) (stripes_of n size * (n - 1) * 512) b h (in-chunks n size b least range.below)) (not-below b size behind))
 
 pub clear-is : (n size : ℕ) (has : ℕ → ℕ → ℕ) → 3 ≤ n → IsClear n size has → is_clear n size has ≡ true
 clear-is n size has least h =
-    each-upto (λ b. nat_lt b size || (has (spot_of n b).disk (spot_of n b).place == 0)) (stripes_of n size * (n - 1) * 512) (λ b lt. elim (cases_lt b size) [
+    each_upto (λ b. nat_lt b size || (has (spot_of n b).disk (spot_of n b).place == 0)) (stripes_of n size * (n - 1) * 512) (λ b lt. elim (cases_lt b size) [
       | inl low ↦ or-first (nat_lt b size) (has (spot_of n b).disk (spot_of n b).place == 0) (is-below b size low)
       | inr high ↦ or-last (nat_lt b size) (has (spot_of n b).disk (spot_of n b).place == 0)
           (zero-is (has (spot_of n b).disk (spot_of n b).place) (h b high (in-stripes n size b least lt)))
@@ -103,7 +102,7 @@ pub sound-is : {S : Type 0} (rack : Ghosts S) (group : Group) (now : S) → IsEv
     → is_sound rack group now ≡ true
 unfolding is_sound
 sound-is rack group now even clear =
-    both-true (is_even group.disks group.length (made_by rack group now)) (is_clear group.disks group.length (made_by rack group now))
+    both_true (is_even group.disks group.length (made_by rack group now)) (is_clear group.disks group.length (made_by rack group now))
     (even-is group.disks group.length (made_by rack group now) even) (clear-is group.disks group.length (made_by rack group now) group.least clear)
 
 -- it depends on what is kept of the group alone

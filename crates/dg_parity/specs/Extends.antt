@@ -49,6 +49,7 @@ pub record GrowsTo {S : Type 0} (rack : Ghosts S) (size : ℕ) (old new : Group)
   pub told : new.told ≡ true → old.told ≡ true
   pub telling : old.told ≡ true → is_lost new ≡ false → new.told ≡ true
   pub sure : is_sure new ≡ is_sure old
+  pub remade : new.remade ≡ old.remade
   pub ready : IsReady rack new now
   pub cause : (j : ℕ) → j < old.disks → is_out old j ≡ false → is_out new j ≡ true
       → Rose ((rack.counts before).faults (disk_number old.number j)) ((rack.counts now).faults (disk_number old.number j))

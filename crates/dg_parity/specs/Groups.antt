@@ -1,5 +1,5 @@
 -- A group: the state that is kept of it, and what its disks stand for in the rack.
-use Rattle.std.specs.Prelude.{◌≡◌, ◌≢◌, ◌⊎◌, ◌↔◌, ◌+◌, ◌*◌, ◌<◌, ◌≤◌, nat_le, not, ℕ, List, [], ◌∷◌, Bool, true, false, Option, None, Some, IsSome}
+use Rattle.std.specs.Prelude.{◌≡◌, ◌≢◌, ◌⊎◌, ◌↔◌, ◌+◌, ◌*◌, ◌<◌, ◌≤◌, ◌&&◌, ◌||◌, nat_le, not, ℕ, List, [], ◌∷◌, Bool, true, false, Option, None, Some, IsSome}
 use Rattle.std.specs.Prelude.{IfSome, length, take, slice_index, slice_index_or, count_by}
 use Rattle.dg_model.specs.Causes.{Rose}
 use Rattle.dg_model.specs.States.{CountsRise}
@@ -50,6 +50,10 @@ has_none (first ∷ rest) = false
 -- whether nothing was wrong with what its disks had when it was opened. No code knows that
 abbrev pub is_sure : Group → Bool
 is_sure group = has_none group.doubts.numbers
+
+-- whether it may tell its member's bytes: it tells them, or it is lost and its member wasn't made anew since
+abbrev pub may_tell : Group → Bool
+may_tell group = group.told || (is_lost group && not group.remade)
 
 -- each disk tells its bytes, those that are out among them, and nothing was wrong with these when the group was opened
 abbrev pub AllTold : {S : Type 0} → Ghosts S → Group → S → Type 0
@@ -109,6 +113,7 @@ pub record IsLater (old new : Group) : Type 0 where
   pub told : new.told ≡ true → old.told ≡ true
   pub telling : old.told ≡ true → is_lost new ≡ false → new.told ≡ true
   pub sure : is_sure new ≡ is_sure old
+  pub remade : new.remade ≡ old.remade
 
 -- q is none of the disks of the group that aren't out
 abbrev pub IsApart : Group → ℕ → Type 0
@@ -162,6 +167,7 @@ pub record IsAlikeBut (old new : Group) : Type 0 where
   pub epoch : new.epoch ≡ old.epoch
   pub told : new.told ≡ old.told
   pub sure : is_sure new ≡ is_sure old
+  pub remade : new.remade ≡ old.remade
 
 -- the same group with the same disks out, whatever its headers say
 pub record IsAlike (old new : Group) : Type 0 where
@@ -171,6 +177,7 @@ pub record IsAlike (old new : Group) : Type 0 where
   pub out : new.out ≡ old.out
   pub told : new.told ≡ old.told
   pub sure : is_sure new ≡ is_sure old
+  pub remade : new.remade ≡ old.remade
 
 -- the same group with the same disks out, for another member
 pub record IsRestarted (old new : Group) : Type 0 where

@@ -2,6 +2,7 @@ pub mod ArrayCalls
 pub mod ArrayLaws
 pub mod Arrays
 pub mod Blanks
+pub mod DiskLaws
 pub mod Epochs
 pub mod Exclusive
 pub mod Extends
@@ -16,4 +17,6 @@ pub mod Reopens
 pub mod Runs
 pub mod Sound
 pub mod Stripes
+pub mod TellLaws
 pub mod Updates
+pub mod Words

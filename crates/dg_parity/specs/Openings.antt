@@ -90,6 +90,7 @@ pub record IsOpened (fronts : ℕ → Option Header) (n s : ℕ) (group : Group)
   pub within : (j : ℕ) → n ≤ j → is_out group j ≡ false
   pub noted : (group.noted ≡ true) ↔ ((marks_of (is_out group) 8 ≡ 0) × (chief.marks ≡ 0))
   pub told : group.told ≡ not (is_lost group)
+  pub remade : group.remade ≡ false
 
 -- a row of what was found, by the disks
 abbrev pub fronts_in : List (Option Header) → ℕ → Option Header
@@ -129,6 +130,7 @@ pub record IsUnmade (n s : ℕ) (group : Group) : Type 0 where
   pub size : group.length ≡ 0
   pub lost : is_lost group ≡ true
   pub told : group.told ≡ true
+  pub remade : group.remade ≡ false
   pub sure : is_sure group ≡ true
 
 -- Group s of n disks as an opening makes it from the headers, and whether anything is wrong with what its disks have.

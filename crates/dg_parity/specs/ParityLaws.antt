@@ -1,17 +1,21 @@
 -- Calls of a rack that is plain or of groups leave what each of them leaves.
-use Rattle.std.specs.Prelude.{◌≡◌, ◌++◌, ℕ, Bool, true, List, [], Option, Some, Result, IsSome}
+use Rattle.std.specs.Prelude.{◌≡◌, ◌+◌, ◌*◌, ◌++◌, ℕ, true, false, List, [], Some, Result, IfSome, IsSome}
 use Rattle.std.proofs.Common.{◌⊎◌, ◌∙◌, ap, inl, inr, refl}
-use Rattle.dg_io.specs.Disks.{no_disks}
+use Rattle.std.proofs.lemmas.Bool.{false≢true}
+use Rattle.dg_io.specs.DiskAnswers.{HandlesAs, LeavesMembers, is_group_lost}
+use Rattle.dg_io.specs.Disks.{AreSameGroups, no_disks}
 use Rattle.dg_io.specs.Kept.{HasAnother, IsNothing, Kept, KeepsRest}
-use Rattle.dg_io.specs.MadeLaws.{disks_same}
+use Rattle.dg_io.specs.MadeLaws.{disks_same, same_told}
 use Rattle.dg_io.specs.Makes.{Makes}
 use Rattle.dg_io.specs.Makes.Makes.{nothing as made_nothing, after as made_after}
 use Rattle.dg_io.specs.RackCalls.{RackCall}
 use Rattle.dg_io.specs.RackWords.{After, Leaves}
 use Rattle.dg_io.specs.declared.outside.Rack.{Ghosts}
 use Rattle.dg_parity.specs.ArrayLaws.{grouped_both, grouped_none}
-use Rattle.dg_parity.specs.Arrays.{Grouped, GroupedMade, grouped_words}
-use Rattle.dg_parity.specs.ParityRacks.{IsShaped, ParityMade, either, groups_in, made_by, parity_keeps, parity_stands, parity_words, width_in}
+use Rattle.dg_parity.specs.Arrays.{Grouped, GroupedHandles, GroupedMade, grouped_rack, grouped_words}
+use Rattle.dg_parity.specs.DiskLaws.{grouped_handled, grouped_lost, grouped_single}
+use Rattle.dg_parity.specs.ParityRacks.{ParityHandles, ParityMade, handled_by, made_by, parity_bytes, parity_disks, parity_keeps, parity_stands, parity_tells, parity_words}
+use Rattle.dg_parity.specs.TellLaws.{grouped_tells_told, grouped_told}
 use Rattle.dg_parity.specs.declared.parity_racks.ParityRack.{ParityRack}
 use Rattle.dg_parity.specs.declared.parity_racks.ParityRack.TheVariants.{Plain, OfGroups}
 
@@ -118,29 +122,77 @@ module _ {R : Type 0} (rack : Ghosts R) where
   pub grouped_rest : (q : ℕ) (a b : Grouped R) → KeepsRest (parity_keeps rack) (parity_stands rack) q (OfGroups a) (OfGroups b)
   grouped_rest q a b = record { rest = λ kept keeps case. absurd keeps; any = λ kept keeps. absurd keeps }
 
-pub parity_tells_told : {R : Type 0} (bytes : R → ℕ → Option (List ℕ)) (tells : R → ℕ → Type 0) → ((s : R) (q : ℕ) → IsSome (bytes s q) → tells s q) → (grouped : Grouped R → ℕ → Option (List ℕ))
-    → (s : ParityRack R) (q : ℕ) → IsSome (either bytes grouped s q) → either tells (λ it r. IsSome (grouped it r)) s q
-parity_tells_told bytes tells law grouped (Plain s) q told = law s q told
-parity_tells_told bytes tells law grouped (OfGroups s) q told = told
+-- ---- a call on a disk
 
-pub parity_told : {R : Type 0} (bytes : R → ℕ → Option (List ℕ)) (stands : R → ℕ → Bool) (tells : R → ℕ → Type 0) → ((s : R) (q : ℕ) → tells s q → stands s q ≡ true → IsSome (bytes s q))
-    → (grouped : Grouped R → ℕ → Option (List ℕ)) → (s : ParityRack R) (q : ℕ) → either tells (λ it r. IsSome (grouped it r)) s q → either stands (λ it r. true) s q ≡ true → IsSome (either bytes grouped s q)
-parity_told bytes stands tells law grouped (Plain s) q told stand = law s q told stand
-parity_told bytes stands tells law grouped (OfGroups s) q told stand = told
+module _ {R : Type 0} (rack : Ghosts R) (s j : ℕ) where
+  pub plain_members : (now : R) → LeavesMembers (parity_words rack) s (Plain now) (Plain now)
+  plain_members now = record {
+    same_rack = refl;
+    steady_on = (λ h. h, λ h. h);
+    counts_stay = refl;
+    others_stand = λ q far. refl;
+    stands_on = λ served. refl;
+    same = λ q. same_told (rack.bytes now q);
+    told_before = λ q h. h;
+    keeps_on = λ kept h. h;
+  }
+
+  pub grouped_members : (a b : Grouped R) → LeavesMembers (grouped_rack rack) s a b → LeavesMembers (parity_words rack) s (OfGroups a) (OfGroups b)
+  grouped_members a b leaves = record {
+    same_rack = leaves.same_rack;
+    steady_on = leaves.steady_on;
+    counts_stay = leaves.counts_stay;
+    others_stand = leaves.others_stand;
+    stands_on = leaves.stands_on;
+    same = leaves.same;
+    told_before = leaves.told_before;
+    keeps_on = leaves.keeps_on;
+  }
+
+  pub grouped_handles : (a b : Grouped R) → GroupedHandles rack a s j b → ParityHandles rack (OfGroups a) s j (OfGroups b)
+  grouped_handles a b handles = record { by = handles }
+
+  handled_of : (a b : ParityRack R) → handled_by rack a s j b → HandlesAs (parity_words rack) s j a b
+  handled_of (Plain a) b by = absurd by
+  handled_of (OfGroups a) (Plain b) by = absurd by
+  handled_of (OfGroups a) (OfGroups b) by = record { one = by.one; leaves = grouped_members a b (grouped_handled rack a b s j by).leaves }
+
+  pub parity_handled : (a b : ParityRack R) → ParityHandles rack a s j b → HandlesAs (parity_words rack) s j a b
+  parity_handled a b handles = handled_of a b handles.by
+
+-- ---- the laws of a rack with disks
+
+module _ {R : Type 0} (rack : Ghosts R) where
+  pub parity_tells_told : ((s : R) (q : ℕ) → IsSome (rack.bytes s q) → rack.tells s q) → (s : ParityRack R) (q : ℕ) → IsSome (parity_bytes rack s q) → parity_tells rack s q
+  parity_tells_told law (Plain s) q told = law s q told
+  parity_tells_told law (OfGroups s) q told = grouped_tells_told rack s q told
+
+  pub parity_told : ((s : R) (q : ℕ) → rack.tells s q → rack.stands s q ≡ true → IsSome (rack.bytes s q)) → (s : ParityRack R) (q : ℕ) → parity_tells rack s q → parity_stands rack s q ≡ true
+      → IsSome (parity_bytes rack s q)
+  parity_told law (Plain s) q tell stand = law s q tell stand
+  parity_told law (OfGroups s) q tell stand = grouped_told rack s q tell stand
+
+  pub parity_single : (s : ParityRack R) (x : ℕ) → IsSome (parity_disks rack s).width → parity_stands rack s (2 * x + 1) ≡ false
+  parity_single (Plain s) x some = absurd (false≢true some)
+  parity_single (OfGroups s) x some = grouped_single rack s x
+
+  pub parity_lost : (s : ParityRack R) (x : ℕ) → IfSome (parity_disks rack s).width (λ n. is_group_lost n (parity_disks rack s).out x ≡ true → parity_stands rack s (2 * x) ≡ false)
+  parity_lost (Plain s) x = tt
+  parity_lost (OfGroups s) x = grouped_lost rack s x
 
 -- ---- how many groups it has, and of how many disks, is for good
 
-shaped_by : {R : Type 0} (rack : Ghosts R) (a b : ParityRack R) (calls : List RackCall) → made_by rack a calls b → IsShaped a b
-shaped_by rack (Plain a) (Plain b) calls is = record { width = refl; groups = refl }
+shaped_by : {R : Type 0} (rack : Ghosts R) (a b : ParityRack R) (calls : List RackCall) → made_by rack a calls b → AreSameGroups (parity_disks rack a) (parity_disks rack b)
+shaped_by rack (Plain a) (Plain b) calls is = record { width = refl; count = refl }
 shaped_by rack (Plain a) (OfGroups b) calls is = absurd is
 shaped_by rack (OfGroups a) (Plain b) calls is = absurd is
-shaped_by rack (OfGroups a) (OfGroups b) calls is = record { width = ap Some is.shaped.width; groups = is.shaped.groups }
+shaped_by rack (OfGroups a) (OfGroups b) calls is = record { width = ap Some is.shaped.width; count = is.shaped.groups }
 
 -- Whatever calls were made. `words` is what such a rack means as a rack.
 pub shape_stays : {R : Type 0} (rack : Ghosts R) (words : Ghosts (ParityRack R)) → ((a b : ParityRack R) (calls : List RackCall) → words.made a calls b → ParityMade rack a calls b)
-    → (may : RackCall → Type 0) (a b : ParityRack R) → Makes words may a b → IsShaped a b
-shape_stays rack words means may a b (made_nothing same) = record { width = ap width_in same; groups = ap groups_in same }
+    → (may : RackCall → Type 0) (a b : ParityRack R) → Makes words may a b → AreSameGroups (parity_disks rack a) (parity_disks rack b)
+shape_stays rack words means may a b (made_nothing same) = record { width = ap (λ it. (parity_disks rack it).width) same; count = ap (λ it. (parity_disks rack it).groups) same }
 shape_stays rack words means may a b (made_after {b = mid} first only) =
     let was = shape_stays rack words means may a mid first in
     let now = shaped_by rack mid b only.calls (means mid b only.calls only.made).by in
-    record { width = now.width ∙ was.width; groups = now.groups ∙ was.groups }
+    record { width = now.width ∙ was.width; count = now.count ∙ was.count }

@@ -1,11 +1,11 @@
 -- What a rack over a rack means that is plain, or of groups of disks. A plain one is the rack behind, and has no disks.
-use Rattle.std.specs.Prelude.{◌≡◌, ◌<◌, ℕ, Bool, true, false, List, Option, None, Some, length}
+use Rattle.std.specs.Prelude.{◌≡◌, ◌<◌, ℕ, Bool, true, false, List, Option}
 use Rattle.dg_io.specs.Disks.{DiskStates, no_disks}
 use Rattle.dg_io.specs.Kept.{Kept}
 use Rattle.dg_io.specs.RackCalls.{RackCall}
 use Rattle.dg_io.specs.declared.outside.Rack.{Ghosts}
 use Rattle.dg_model.specs.States.{Counts}
-use Rattle.dg_parity.specs.Arrays.{Grouped, GroupedMade, IsNewOver, group_at, grouped_bytes, grouped_counts, grouped_disks, grouped_keeps, grouped_name, grouped_stands, grouped_steady, grouped_tells, is_fallen, is_noted, serves, size_at}
+use Rattle.dg_parity.specs.Arrays.{Grouped, GroupedHandles, GroupedMade, IsNewOver, group_at, grouped_bytes, grouped_counts, grouped_disks, grouped_keeps, grouped_name, grouped_stands, grouped_steady, grouped_tells, is_fallen, is_noted, serves, size_at}
 use Rattle.dg_parity.specs.declared.parity_racks.ParityRack.{ParityRack}
 use Rattle.dg_parity.specs.declared.parity_racks.ParityRack.TheVariants.{Plain, OfGroups}
 
@@ -48,6 +48,15 @@ made_by rack (OfGroups old) calls (OfGroups new) = GroupedMade rack old calls ne
 pub record ParityMade {R : Type 0} (rack : Ghosts R) (old : ParityRack R) (calls : List RackCall) (new : ParityRack R) : Type 0 where
   pub by : made_by rack old calls new
 
+-- it stays of groups: what a call on disk j of group s leaves of these. A plain one has no disks
+abbrev pub handled_by : {R : Type 0} → Ghosts R → ParityRack R → ℕ → ℕ → ParityRack R → Type 0
+handled_by rack (Plain old) s j new = ⊥
+handled_by rack (OfGroups old) s j (Plain new) = ⊥
+handled_by rack (OfGroups old) s j (OfGroups new) = GroupedHandles rack old s j new
+
+pub record ParityHandles {R : Type 0} (rack : Ghosts R) (old : ParityRack R) (s j : ℕ) (new : ParityRack R) : Type 0 where
+  pub by : handled_by rack old s j new
+
 abbrev pub parity_words : {R : Type 0} → Ghosts R → Ghosts (ParityRack R)
 parity_words rack = record {
   name = parity_name rack;
@@ -59,20 +68,8 @@ parity_words rack = record {
   keeps = parity_keeps rack;
   disks = parity_disks rack;
   made = ParityMade rack;
+  handles = ParityHandles rack;
 }
-
--- how many disks a group has, none of a plain rack
-abbrev pub width_in : {R : Type 0} → ParityRack R → Option ℕ
-width_in = either (λ it. None) (λ it. Some it.width)
-
--- how many groups it has
-abbrev pub groups_in : {R : Type 0} → ParityRack R → ℕ
-groups_in = either (λ it. 0) (λ it. length it.groups)
-
--- how many groups it has, and how many disks each of them, is for good
-pub record IsShaped {R : Type 0} (old new : ParityRack R) : Type 0 where
-  pub width : width_in new ≡ width_in old
-  pub groups : groups_in new ≡ groups_in old
 
 -- fewer than two disks of the member's group are out. Of a plain rack this says nothing
 abbrev pub IsServed : {R : Type 0} → ParityRack R → ℕ → Type 0

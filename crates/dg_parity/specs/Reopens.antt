@@ -8,7 +8,7 @@ use Rattle.dg_parity.specs.Kept.{made_by}
 use Rattle.dg_parity.specs.Sound.{is_sound}
 use Rattle.dg_parity.specs.Arrays.{DisksTell, Grouped, HasNoCalls, IsHeld, TellsNone, grouped_bytes}
 use Rattle.dg_parity.specs.Openings.{OpensGroups, OpensPlain}
-use Rattle.dg_parity.specs.ParityRacks.{IsServed, either, groups_in, parity_bytes, parity_disks, width_in}
+use Rattle.dg_parity.specs.ParityRacks.{IsServed, either, parity_bytes, parity_disks}
 use Rattle.dg_parity.specs.declared.groups.Group.{Group}
 use Rattle.dg_parity.specs.declared.parity_racks.ParityRack.{ParityRack}
 
@@ -41,8 +41,8 @@ TellsMembers rack = either (λ now. Unit {0}) (λ it. TellsSound rack it × Tell
 -- that the opening found.
 pub record IsBack {R : Type 0} (rack : Ghosts R) (s : ℕ) (old : ParityRack R) (before : R) (new : ParityRack R) : Type 0 where
   pub width : ℕ
-  pub width_is : width_in new ≡ Some width
-  pub there : s < groups_in old
+  pub width_is : (parity_disks rack new).width ≡ Some width
+  pub there : s < (parity_disks rack old).groups
   pub untouched : (j : ℕ) → j < width → (parity_disks rack new).out s j ≡ false → Told IsSame (rack.bytes (behind old) (disk_number s j)) (rack.bytes before (disk_number s j))
   pub tell : DisksTell rack (behind new) width s
   pub served : IsServed new (2 * s)

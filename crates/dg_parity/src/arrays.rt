@@ -72,6 +72,13 @@ impl<R: Rack> GroupRack<R> {
     ghost use Rattle.std.specs.Prelude.{◌≡◌};
     ghost use Rattle.dg_parity.specs.Arrays.{HasNoCalls, IsHeld};
 
+    /// The rack behind.
+    pub fn into_rack(self) -> R
+        ensures { result ≡ self.rack }
+    {
+        self.rack
+    }
+
     /// A rack of the groups that an opening found. It takes no memory.
     pub(crate) fn over(rack: R, found: FoundGroups) -> GroupRack<R>
         requires held { IsHeld R.Rack found.width found.groups.items rack }
@@ -104,8 +111,11 @@ impl<R: Rack> Rack for GroupRack<R> {
     ghost use Rattle.dg_parity.specs.ArrayCalls.{quiet_reads_of, quiet_writes_of, reads_of, writes_of, LeastOf, LeastWithHeaders};
     ghost use Rattle.dg_parity.specs.Groups.{MostCalls};
     ghost use Rattle.dg_parity.specs.Arrays.{GoesOn, IsShaped, NoneFell, group_at, is_fallen, is_noted, serves, size_at};
-    ghost use Rattle.dg_parity.specs.Arrays.{GroupedMade, grouped_bytes, grouped_counts, grouped_disks, grouped_keeps, grouped_name, grouped_stands, grouped_steady, grouped_tells, grouped_words};
+    ghost use Rattle.dg_parity.specs.Arrays.{GroupedHandles, GroupedMade, grouped_bytes, grouped_counts, grouped_disks, grouped_keeps, grouped_name};
+    ghost use Rattle.dg_parity.specs.Arrays.{grouped_stands, grouped_steady, grouped_tells, grouped_words};
     ghost use Rattle.dg_parity.specs.ArrayLaws.{grouped_after, grouped_both, grouped_none};
+    ghost use Rattle.dg_parity.specs.TellLaws.{grouped_tells_told, grouped_told};
+    ghost use Rattle.dg_parity.specs.Words.{words_by};
 
     ghost name = { grouped_name R.Rack };
 
@@ -124,6 +134,8 @@ impl<R: Rack> Rack for GroupRack<R> {
     ghost disks = { grouped_disks R.Rack };
 
     ghost made = { GroupedMade R.Rack };
+
+    ghost handles = { GroupedHandles R.Rack };
 
     /// It fails exactly where two disks of the group are out at its end.
     fn blank(&mut self, member: u8, length: u64) -> Result<(), Failed>
@@ -239,33 +251,32 @@ impl<R: Rack> Rack for GroupRack<R> {
 
     ghost after = { λ a b calls made. grouped_after _ a b calls made };
 
-    ghost tells_told = { λ s q h. h };
+    ghost tells_told = { λ s q h. grouped_tells_told
+        (words_by R.name R.bytes R.counts R.stands R.steady R.tells R.keeps R.disks R.made R.handles) s q h };
 
-    ghost told = { λ s q h stand. h };
+    ghost told = { λ s q h stand. grouped_told
+        (words_by R.name R.bytes R.counts R.stands R.steady R.tells R.keeps R.disks R.made R.handles) s q h stand };
 }
 
 impl<R: Rack> Disks for GroupRack<R> {
-    ghost use Rattle.std.specs.Prelude.{◌≡◌, ◌↔◌, ◌<◌, ◌*◌, ℕ, None, IfSome, false, true, slice_get};
+    ghost use Rattle.std.specs.Prelude.{◌≡◌, ◌↔◌, ◌<◌, ◌*◌, ℕ, None, IfSome, IsSome, false, true, slice_get};
     ghost use Rattle.dg_io.specs.DiskAnswers.{DropsDisk, LeavesMembers, MendsDisk, OneDisk};
     ghost use Rattle.dg_parity.specs.ArrayCalls.{mends_of};
-    ghost use Rattle.dg_parity.specs.ArrayLaws.{grouped_rack};
-    ghost use Rattle.dg_parity.specs.Arrays.{GoesOn, group_at, grouped_disks, grouped_groups, grouped_width, is_noted};
+    ghost use Rattle.dg_parity.specs.Arrays.{GoesOn, GroupedHandles, group_at, grouped_disks, grouped_rack, is_noted};
+    ghost use Rattle.dg_parity.specs.DiskLaws.{grouped_handled, grouped_lost, grouped_single};
+    ghost use Rattle.dg_parity.specs.Words.{words_by};
     ghost use Rattle.dg_parity.specs.Groups.{MostCalls};
-
-    ghost width = { grouped_width };
-
-    ghost groups = { grouped_groups };
 
     /// The headers of the others say so, unless two disks of the group are out.
     fn drop_disk(&mut self, s: u8, j: u8) -> DropAnswer
-        requires place { IfSome (grouped_width self.old) (λ n. (s < grouped_groups self.old) × (j < n)) }
-        ensures plain { (result ≡ DropAnswer.Plain) ↔ (grouped_width self.old ≡ None) }
-        ensures idle { grouped_width self.old ≡ None → self.new ≡ self.old }
-        ensures answer { IfSome (grouped_width self.old) (λ n. DropsDisk n s j (grouped_disks R.Rack self.old) (grouped_disks R.Rack self.new) result) }
+        requires place { IfSome (grouped_disks R.Rack self.old).width (λ n. (s < (grouped_disks R.Rack self.old).groups) × (j < n)) }
+        ensures plain { (result ≡ DropAnswer.Plain) ↔ ((grouped_disks R.Rack self.old).width ≡ None) }
+        ensures idle { (grouped_disks R.Rack self.old).width ≡ None → self.new ≡ self.old }
+        ensures answer { IfSome (grouped_disks R.Rack self.old).width (λ n. DropsDisk n s j (grouped_disks R.Rack self.old) (grouped_disks R.Rack self.new) result) }
+        ensures already { result ≡ DropAnswer.Already → self.new ≡ self.old }
         ensures disks { OneDisk s j (grouped_disks R.Rack self.old) (grouped_disks R.Rack self.new) }
-        ensures leaves { LeavesMembers (grouped_rack R.Rack) self.old self.new }
-        ensures width { grouped_width self.new ≡ grouped_width self.old }
-        ensures groups { grouped_groups self.new ≡ grouped_groups self.old }
+        ensures leaves { LeavesMembers (grouped_rack R.Rack) s self.old self.new }
+        ensures handles { IsSome (grouped_disks R.Rack self.old).width → GroupedHandles R.Rack self.old s j self.new }
         ensures noted { result ≡ DropAnswer.Dropped false → is_noted (group_at self.new.groups (2 * s)) ≡ true }
         ensures goes_on { GoesOn R.Rack self.old.groups self.new.groups self.old.rack self.new.rack }
     {
@@ -274,14 +285,14 @@ impl<R: Rack> Disks for GroupRack<R> {
 
     /// The headers say so.
     fn mend(&mut self, s: u8, j: u8) -> MendAnswer
-        requires place { IfSome (grouped_width self.old) (λ n. (s < grouped_groups self.old) × (j < n)) }
-        ensures plain { (result ≡ MendAnswer.Plain) ↔ (grouped_width self.old ≡ None) }
-        ensures idle { grouped_width self.old ≡ None → self.new ≡ self.old }
-        ensures answer { IfSome (grouped_width self.old) (λ n. MendsDisk n s j (grouped_disks R.Rack self.old) (grouped_disks R.Rack self.new) result) }
+        requires place { IfSome (grouped_disks R.Rack self.old).width (λ n. (s < (grouped_disks R.Rack self.old).groups) × (j < n)) }
+        ensures plain { (result ≡ MendAnswer.Plain) ↔ ((grouped_disks R.Rack self.old).width ≡ None) }
+        ensures idle { (grouped_disks R.Rack self.old).width ≡ None → self.new ≡ self.old }
+        ensures answer { IfSome (grouped_disks R.Rack self.old).width (λ n. MendsDisk n s j (grouped_disks R.Rack self.old) (grouped_disks R.Rack self.new) result) }
+        ensures not_out { result ≡ MendAnswer.NotOut → self.new ≡ self.old }
         ensures disks { OneDisk s j (grouped_disks R.Rack self.old) (grouped_disks R.Rack self.new) }
-        ensures leaves { LeavesMembers (grouped_rack R.Rack) self.old self.new }
-        ensures width { grouped_width self.new ≡ grouped_width self.old }
-        ensures groups { grouped_groups self.new ≡ grouped_groups self.old }
+        ensures leaves { LeavesMembers (grouped_rack R.Rack) s self.old self.new }
+        ensures handles { IsSome (grouped_disks R.Rack self.old).width → GroupedHandles R.Rack self.old s j self.new }
         ensures noted { (c : ℕ) → result ≡ MendAnswer.Mended c → is_noted (group_at self.new.groups (2 * s)) ≡ true }
         ensures goes_on { GoesOn R.Rack self.old.groups self.new.groups self.old.rack self.new.rack }
         ensures calls { MostCalls R.Rack (mends_of (slice_get self.old.groups s)) self.old.rack self.new.rack }
@@ -292,4 +303,12 @@ impl<R: Rack> Disks for GroupRack<R> {
     fn disks(&self) -> Option<u8> {
         Some(self.width)
     }
+
+    ghost handled = { λ a b s j h. grouped_handled _ a b s j h };
+
+    ghost single = { λ it x some. grouped_single
+        (words_by R.name R.bytes R.counts R.stands R.steady R.tells R.keeps R.disks R.made R.handles) it x };
+
+    ghost lost = { λ it x. grouped_lost
+        (words_by R.name R.bytes R.counts R.stands R.steady R.tells R.keeps R.disks R.made R.handles) it x };
 }

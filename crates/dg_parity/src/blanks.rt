@@ -50,6 +50,7 @@ pub fn blank<R: Rack>(group: &mut Group, rack: &mut R, size: u64) -> bool
     ensures cause { (j : ℕ) → j < group.old.disks → is_out group.new j ≡ true
         → Rose ((R.counts rack.old).faults (disk_number group.old.number j)) ((R.counts rack.new).faults (disk_number group.old.number j)) }
     ensures silent { is_lost group.new ≡ true → group.new.told ≡ false }
+    ensures remade { group.new.remade ≡ not group.old.told }
     ensures leaves { LeavesOthers R.Rack group.old rack.old rack.new }
 {
     group.mark_all();

@@ -96,6 +96,7 @@ pub fn group_of(fronts: &[Option<Header>; 8], s: u8, n: u8) -> Option<Group>
         epoch: chief.epoch,
         length: chief.size,
         told: true,
+        remade: false,
         noted,
         doubts: Tag::empty(),
     };

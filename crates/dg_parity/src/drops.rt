@@ -27,6 +27,8 @@ pub fn drop_disk<R: Rack>(group: &mut Group, rack: &mut R, j: u8) -> DropAnswer
     ensures noted { result ≡ DropAnswer.Dropped false → group.new.noted ≡ true }
     ensures parity { result ≢ DropAnswer.Plain }
     ensures silent { result ≡ DropAnswer.Dropped true → group.new.told ≡ false }
+    ensures remade { group.new.remade ≡ group.old.remade }
+    ensures lost_on { is_lost group.old ≡ true → is_lost group.new ≡ true }
 {
     if group.is_out(j) {
         return DropAnswer::Already;

@@ -74,6 +74,7 @@ pub fn extend<R: Rack>(group: &mut Group, rack: &mut R, size: u64) -> bool
     ensures still { IsStill group.old group.new }
     ensures telling { group.old.told ≡ true → is_lost group.new ≡ false → group.new.told ≡ true }
     ensures silent { is_lost group.old ≡ false → is_lost group.new ≡ true → group.new.told ≡ false }
+    ensures remade { group.new.remade ≡ group.old.remade }
     ensures leaves { LeavesOthers R.Rack group.old rack.old rack.new }
     ensures calls { MostCalls R.Rack (3 * group.old.disks) rack.old rack.new }
 {

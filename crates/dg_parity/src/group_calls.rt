@@ -1,12 +1,13 @@
 // Calls on members that are groups of disks: of an even member its group is called, and no other member is ever there.
 #![tactic(auto, using(crate::proofs::GoesOnLemmas::goes_none))]
 
-ghost use Rattle.std.specs.Prelude.{◌≡◌, ◌≢◌, ◌⊎◌, ◌+◌, ◌<◌, ℕ, true, false, length, slice_get, None, Some, IfOk, IfSome, OnErr, OnOk};
+ghost use Rattle.std.specs.Prelude.{◌≡◌, ◌≢◌, ◌⊎◌, ◌+◌, ◌*◌, ◌<◌, ℕ, true, false, length, slice_get, None, Some, IfOk, IfSome, OnErr, OnOk};
+ghost use Rattle.dg_model.specs.Causes.{Rose};
 ghost use Rattle.dg_io.specs.DiskAnswers.{DropsDisk, MendsDisk};
 ghost use Rattle.dg_io.specs.Told.{Told, IsSame, IsZeros, Extended, Patched, Reads, Torn};
 ghost use Rattle.dg_parity.specs.ArrayCalls.{mends_of, quiet_reads_of, quiet_writes_of, reads_of, writes_of, LeastOf, LeastWithHeaders};
 ghost use Rattle.dg_parity.specs.Groups.{MostCalls};
-ghost use Rattle.dg_parity.specs.Arrays.{AreKept, GoesOn, NoneBack, NoneFell, Steps, StepsOn, group_at, is_fallen, is_noted, is_served, is_unmade, serves, size_at, states_in, told_at, width_at};
+ghost use Rattle.dg_parity.specs.Arrays.{AreKept, GoesOn, NoneBack, NoneFell, Steps, StepsOn, faults_of, group_at, is_fallen, is_noted, is_served, is_unmade, out_of, serves, size_at, states_in, told_at, width_at};
 
 use crate::blanks::blank;
 use crate::drops::drop_disk;
@@ -31,6 +32,9 @@ pub(crate) fn blank_at<R: Rack>(
     ensures fails { OnErr result (serves groups.new.items member ≡ false) }
     ensures size { OnOk result (size_at groups.new.items member ≡ size) }
     ensures ok { OnOk result (Told (IsZeros size) (told_at R.Rack groups.old.items rack.old member) (told_at R.Rack groups.new.items rack.new member)) }
+    ensures made { (s : ℕ) → member ≡ 2 * s → s < length groups.old.items → is_unmade (slice_get groups.new.items s) ≡ false }
+    ensures anew { (s j : ℕ) → member ≡ 2 * s → out_of (slice_get groups.new.items s) j ≡ true
+        → Rose (faults_of (R.counts rack.old) (slice_get groups.old.items s) j) (faults_of (R.counts rack.new) (slice_get groups.new.items s) j) }
 {
     if member % 2 != 0 {
         return Err(Failed);
@@ -183,8 +187,10 @@ pub(crate) fn drop_at<R: Rack>(groups: &mut Vec<Group>, rack: &mut R, s: u8, j: 
     ensures steps { StepsOn R.Rack s j groups.old.items groups.new.items rack.old rack.new }
     ensures goes_on { GoesOn R.Rack groups.old.items groups.new.items rack.old rack.new }
     ensures noted { result ≡ DropAnswer.Dropped false → is_noted (slice_get groups.new.items s) ≡ true }
+    ensures already { result ≡ DropAnswer.Already → (groups.new.items ≡ groups.old.items) × (rack.new ≡ rack.old) }
     ensures answer { DropsDisk (width_at groups.old.items s) s j
-        (states_in R.Rack groups.old.items rack.old) (states_in R.Rack groups.new.items rack.new) result }
+        (states_in R.Rack (width_at groups.old.items s) groups.old.items rack.old)
+        (states_in R.Rack (width_at groups.old.items s) groups.new.items rack.new) result }
     ensures parity { result ≢ DropAnswer.Plain }
 {
     match groups.get_mut(s as usize) {
@@ -201,9 +207,11 @@ pub(crate) fn mend_at<R: Rack>(groups: &mut Vec<Group>, rack: &mut R, s: u8, j: 
     ensures steps { StepsOn R.Rack s j groups.old.items groups.new.items rack.old rack.new }
     ensures goes_on { GoesOn R.Rack groups.old.items groups.new.items rack.old rack.new }
     ensures noted { (c : ℕ) → result ≡ MendAnswer.Mended c → is_noted (slice_get groups.new.items s) ≡ true }
+    ensures not_out { result ≡ MendAnswer.NotOut → (groups.new.items ≡ groups.old.items) × (rack.new ≡ rack.old) }
     ensures calls { MostCalls R.Rack (mends_of (slice_get groups.old.items s)) rack.old rack.new }
     ensures answer { MendsDisk (width_at groups.old.items s) s j
-        (states_in R.Rack groups.old.items rack.old) (states_in R.Rack groups.new.items rack.new) result }
+        (states_in R.Rack (width_at groups.old.items s) groups.old.items rack.old)
+        (states_in R.Rack (width_at groups.old.items s) groups.new.items rack.new) result }
     ensures parity { result ≢ MendAnswer.Plain }
 {
     match groups.get_mut(s as usize) {

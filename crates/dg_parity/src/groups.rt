@@ -17,6 +17,8 @@ pub struct Group {
     pub(crate) length: u64,
     /// Whether it still tells the member's bytes.
     pub(crate) told: bool,
+    /// Whether its member was made anew after two of its disks had gone out: it tells nothing since.
+    pub(crate) remade: bool,
     /// Whether the headers of the disks that aren't out say all this.
     pub(crate) noted: bool,
     /// What was wrong with the bytes of its disks when it was opened. Clauses alone know it.
@@ -30,6 +32,7 @@ pub struct Group {
 }
 
 impl Group {
+    ghost use Rattle.std.specs.Prelude.{not};
     ghost use Rattle.dg_parity.specs.Groups.{is_out, is_lost, is_sure, disk_number, header_in, IsLater, IsAlike, IsAlikeBut, IsRestarted};
 
     /// Whether disk j is out.
@@ -91,6 +94,7 @@ impl Group {
         ensures disks { result.disks ≡ disks }
         ensures size { result.length ≡ 0 }
         ensures told { result.told ≡ true }
+        ensures remade { result.remade ≡ false }
         ensures sure { is_sure result ≡ true }
         ensures out { (j : ℕ) → j < disks → is_out result j ≡ true }
         ensures lost { is_lost result ≡ true }
@@ -102,6 +106,7 @@ impl Group {
             epoch: 0,
             length: 0,
             told: true,
+            remade: false,
             noted: false,
             doubts: Tag::empty(),
         };
@@ -152,9 +157,11 @@ impl Group {
         ensures size { self.new.length ≡ size }
         ensures epoch { self.new.epoch ≡ 0 }
         ensures noted { self.new.noted ≡ false }
+        ensures remade { self.new.remade ≡ not self.old.told }
     {
         self.length = size;
         self.epoch = 0;
+        self.remade = !self.told;
         self.noted = false;
     }
 
@@ -164,6 +171,7 @@ impl Group {
         ensures size { self.new.length ≡ size }
         ensures epoch { self.new.epoch ≡ self.old.epoch }
         ensures noted { self.new.noted ≡ false }
+        ensures remade { self.new.remade ≡ self.old.remade }
     {
         self.length = size;
         self.noted = false;

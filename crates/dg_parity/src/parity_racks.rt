@@ -84,13 +84,16 @@ impl<R: Rack> Rack for ParityRack<R> {
     ghost use Rattle.std.specs.Prelude.{◌≡◌, ◌⊎◌, ◌+◌, ◌≤◌, ◌∷◌, [], true, length, None, IfOk, IfSome, IsSome, OnErr, OnOk};
     ghost use Rattle.dg_model.specs.Causes.{RoseByOne};
     ghost use Rattle.dg_io.specs.RackWords.{Leaves};
+    ghost use Rattle.dg_io.specs.Disks.{AreSameGroups};
     ghost use Rattle.dg_io.specs.Kept.{KeepsRest};
     ghost use Rattle.dg_io.specs.RackCalls.{RackCall};
     ghost use Rattle.dg_io.specs.Told.{Told, IsSame, IsZeros, Measures, IsEmpty, Reads, Patched, Torn, FitsIn, Extended, KeepsFront, IsHeader, OldOrNew};
     ghost use Rattle.dg_parity.specs.ArrayCalls.{RackGoesOn, ReadsBehind, ReadsQuietly, WritesBehind, WritesLeast, WritesQuietly, WritesWithHeaders};
-    ghost use Rattle.dg_parity.specs.ParityRacks.{IsFallen, IsNoted, IsPast, IsServed, IsShaped, IsShort, IsUnserved};
-    ghost use Rattle.dg_parity.specs.ParityRacks.{ParityMade, parity_bytes, parity_counts, parity_disks, parity_keeps, parity_name, parity_stands, parity_steady, parity_tells, parity_words};
+    ghost use Rattle.dg_parity.specs.ParityRacks.{IsFallen, IsNoted, IsPast, IsServed, IsShort, IsUnserved};
+    ghost use Rattle.dg_parity.specs.ParityRacks.{ParityHandles, ParityMade, parity_bytes, parity_counts, parity_disks, parity_keeps, parity_name};
+    ghost use Rattle.dg_parity.specs.ParityRacks.{parity_stands, parity_steady, parity_tells, parity_words};
     ghost use Rattle.dg_parity.specs.ParityLaws.{parity_after, parity_both, parity_none, parity_tells_told, parity_told};
+    ghost use Rattle.dg_parity.specs.Words.{words_by};
 
     ghost name = { parity_name R.Rack };
 
@@ -110,6 +113,8 @@ impl<R: Rack> Rack for ParityRack<R> {
 
     ghost made = { ParityMade R.Rack };
 
+    ghost handles = { ParityHandles R.Rack };
+
     /// One of groups fails exactly where two disks of the group are out at its end.
     fn blank(&mut self, member: u8, length: u64) -> Result<(), Failed>
         ensures ok { OnOk result (Told (IsZeros length) (parity_bytes R.Rack self.old member) (parity_bytes R.Rack self.new member)) }
@@ -118,7 +123,7 @@ impl<R: Rack> Rack for ParityRack<R> {
         ensures keeps { KeepsRest (parity_keeps R.Rack) (parity_stands R.Rack) member self.old self.new }
         ensures made { ParityMade R.Rack self.old (RackCall.blanks member ∷ []) self.new }
         ensures writes { RoseByOne (parity_counts R.Rack self.old).writes (parity_counts R.Rack self.new).writes }
-        ensures shape { IsShaped self.old self.new }
+        ensures shape { AreSameGroups (parity_disks R.Rack self.old) (parity_disks R.Rack self.new) }
         ensures noted { OnOk result (IsNoted self.new member) }
         ensures goes_on { RackGoesOn R.Rack self.old self.new }
         ensures alive { OnOk result (IsServed self.new member) }
@@ -139,7 +144,7 @@ impl<R: Rack> Rack for ParityRack<R> {
         ensures stands { IfOk result (λ found. IsSome found → parity_stands R.Rack self.new member ≡ true) }
         ensures made { ParityMade R.Rack self.old (RackCall.looks member ∷ []) self.new }
         ensures writes { (parity_counts R.Rack self.new).writes ≡ (parity_counts R.Rack self.old).writes }
-        ensures shape { IsShaped self.old self.new }
+        ensures shape { AreSameGroups (parity_disks R.Rack self.old) (parity_disks R.Rack self.new) }
         ensures goes_on { RackGoesOn R.Rack self.old self.new }
         ensures fails { OnErr result (IsFallen self.new member) }
     {
@@ -158,7 +163,7 @@ impl<R: Rack> Rack for ParityRack<R> {
         ensures made { ParityMade R.Rack self.old (RackCall.calls member ∷ []) self.new }
         ensures leaves { Leaves (parity_words R.Rack) member result self.old self.new }
         ensures writes { (parity_counts R.Rack self.new).writes ≡ (parity_counts R.Rack self.old).writes }
-        ensures shape { IsShaped self.old self.new }
+        ensures shape { AreSameGroups (parity_disks R.Rack self.old) (parity_disks R.Rack self.new) }
         ensures goes_on { RackGoesOn R.Rack self.old self.new }
         ensures quiet { OnOk result (ReadsQuietly R.Rack self.old self.new member place (length buf.old)) }
         ensures alive { OnOk result (IsServed self.new member) }
@@ -182,7 +187,7 @@ impl<R: Rack> Rack for ParityRack<R> {
         ensures made { ParityMade R.Rack self.old (RackCall.calls member ∷ []) self.new }
         ensures leaves { Leaves (parity_words R.Rack) member result self.old self.new }
         ensures writes { RoseByOne (parity_counts R.Rack self.old).writes (parity_counts R.Rack self.new).writes }
-        ensures shape { IsShaped self.old self.new }
+        ensures shape { AreSameGroups (parity_disks R.Rack self.old) (parity_disks R.Rack self.new) }
         ensures noted { OnOk result (IsNoted self.new member) }
         ensures goes_on { RackGoesOn R.Rack self.old self.new }
         ensures quiet { OnOk result (WritesQuietly R.Rack self.old self.new member place (length buf.now)) }
@@ -207,7 +212,7 @@ impl<R: Rack> Rack for ParityRack<R> {
         ensures made { ParityMade R.Rack self.old (RackCall.extends member ∷ []) self.new }
         ensures leaves { Leaves (parity_words R.Rack) member result self.old self.new }
         ensures writes { RoseByOne (parity_counts R.Rack self.old).writes (parity_counts R.Rack self.new).writes }
-        ensures shape { IsShaped self.old self.new }
+        ensures shape { AreSameGroups (parity_disks R.Rack self.old) (parity_disks R.Rack self.new) }
         ensures noted { OnOk result (IsNoted self.new member) }
         ensures goes_on { RackGoesOn R.Rack self.old self.new }
         ensures alive { OnOk result (IsServed self.new member) }
@@ -225,31 +230,31 @@ impl<R: Rack> Rack for ParityRack<R> {
 
     ghost after = { λ a b calls made. parity_after _ R.after a b calls made };
 
-    ghost tells_told = { λ s q h. parity_tells_told R.bytes R.tells R.tells_told _ s q h };
+    ghost tells_told = { λ s q h. parity_tells_told
+        (words_by R.name R.bytes R.counts R.stands R.steady R.tells R.keeps R.disks R.made R.handles) R.tells_told s q h };
 
-    ghost told = { λ s q h stand. parity_told R.bytes R.stands R.tells R.told _ s q h stand };
+    ghost told = { λ s q h stand. parity_told
+        (words_by R.name R.bytes R.counts R.stands R.steady R.tells R.keeps R.disks R.made R.handles) R.told s q h stand };
 }
 
 impl<R: Rack> Disks for ParityRack<R> {
-    ghost use Rattle.std.specs.Prelude.{◌≡◌, ◌↔◌, ◌<◌, ◌*◌, ℕ, None, IfSome, false};
+    ghost use Rattle.std.specs.Prelude.{◌≡◌, ◌↔◌, ◌<◌, ◌*◌, ℕ, None, IfSome, IsSome, false};
     ghost use Rattle.dg_io.specs.DiskAnswers.{DropsDisk, LeavesMembers, MendsDisk, OneDisk};
     ghost use Rattle.dg_parity.specs.ArrayCalls.{MendsBehind, RackGoesOn};
-    ghost use Rattle.dg_parity.specs.ParityRacks.{IsNoted, groups_in, parity_disks, parity_words, width_in};
-
-    ghost width = { width_in };
-
-    ghost groups = { groups_in };
+    ghost use Rattle.dg_parity.specs.ParityLaws.{parity_handled, parity_lost, parity_single};
+    ghost use Rattle.dg_parity.specs.Words.{words_by};
+    ghost use Rattle.dg_parity.specs.ParityRacks.{IsNoted, ParityHandles, parity_disks, parity_words};
 
     /// The headers of the others say so, unless two disks of the group are out.
     fn drop_disk(&mut self, s: u8, j: u8) -> DropAnswer
-        requires place { IfSome (width_in self.old) (λ n. (s < groups_in self.old) × (j < n)) }
-        ensures plain { (result ≡ DropAnswer.Plain) ↔ (width_in self.old ≡ None) }
-        ensures idle { width_in self.old ≡ None → self.new ≡ self.old }
-        ensures answer { IfSome (width_in self.old) (λ n. DropsDisk n s j (parity_disks R.Rack self.old) (parity_disks R.Rack self.new) result) }
+        requires place { IfSome (parity_disks R.Rack self.old).width (λ n. (s < (parity_disks R.Rack self.old).groups) × (j < n)) }
+        ensures plain { (result ≡ DropAnswer.Plain) ↔ ((parity_disks R.Rack self.old).width ≡ None) }
+        ensures idle { (parity_disks R.Rack self.old).width ≡ None → self.new ≡ self.old }
+        ensures answer { IfSome (parity_disks R.Rack self.old).width (λ n. DropsDisk n s j (parity_disks R.Rack self.old) (parity_disks R.Rack self.new) result) }
+        ensures already { result ≡ DropAnswer.Already → self.new ≡ self.old }
         ensures disks { OneDisk s j (parity_disks R.Rack self.old) (parity_disks R.Rack self.new) }
-        ensures leaves { LeavesMembers (parity_words R.Rack) self.old self.new }
-        ensures width { width_in self.new ≡ width_in self.old }
-        ensures groups { groups_in self.new ≡ groups_in self.old }
+        ensures leaves { LeavesMembers (parity_words R.Rack) s self.old self.new }
+        ensures handles { IsSome (parity_disks R.Rack self.old).width → ParityHandles R.Rack self.old s j self.new }
         ensures noted { result ≡ DropAnswer.Dropped false → IsNoted self.new (2 * s) }
         ensures goes_on { RackGoesOn R.Rack self.old self.new }
     {
@@ -261,14 +266,14 @@ impl<R: Rack> Disks for ParityRack<R> {
 
     /// The headers say so. In each run of 16 stripes each disk is called once at most.
     fn mend(&mut self, s: u8, j: u8) -> MendAnswer
-        requires place { IfSome (width_in self.old) (λ n. (s < groups_in self.old) × (j < n)) }
-        ensures plain { (result ≡ MendAnswer.Plain) ↔ (width_in self.old ≡ None) }
-        ensures idle { width_in self.old ≡ None → self.new ≡ self.old }
-        ensures answer { IfSome (width_in self.old) (λ n. MendsDisk n s j (parity_disks R.Rack self.old) (parity_disks R.Rack self.new) result) }
+        requires place { IfSome (parity_disks R.Rack self.old).width (λ n. (s < (parity_disks R.Rack self.old).groups) × (j < n)) }
+        ensures plain { (result ≡ MendAnswer.Plain) ↔ ((parity_disks R.Rack self.old).width ≡ None) }
+        ensures idle { (parity_disks R.Rack self.old).width ≡ None → self.new ≡ self.old }
+        ensures answer { IfSome (parity_disks R.Rack self.old).width (λ n. MendsDisk n s j (parity_disks R.Rack self.old) (parity_disks R.Rack self.new) result) }
+        ensures not_out { result ≡ MendAnswer.NotOut → self.new ≡ self.old }
         ensures disks { OneDisk s j (parity_disks R.Rack self.old) (parity_disks R.Rack self.new) }
-        ensures leaves { LeavesMembers (parity_words R.Rack) self.old self.new }
-        ensures width { width_in self.new ≡ width_in self.old }
-        ensures groups { groups_in self.new ≡ groups_in self.old }
+        ensures leaves { LeavesMembers (parity_words R.Rack) s self.old self.new }
+        ensures handles { IsSome (parity_disks R.Rack self.old).width → ParityHandles R.Rack self.old s j self.new }
         ensures noted { (c : ℕ) → result ≡ MendAnswer.Mended c → IsNoted self.new (2 * s) }
         ensures goes_on { RackGoesOn R.Rack self.old self.new }
         ensures calls { MendsBehind R.Rack self.old self.new s }
@@ -285,4 +290,12 @@ impl<R: Rack> Disks for ParityRack<R> {
             ParityRack::OfGroups(grouped) => grouped.disks(),
         }
     }
+
+    ghost handled = { λ a b s j h. parity_handled _ s j a b h };
+
+    ghost single = { λ it x some. parity_single
+        (words_by R.name R.bytes R.counts R.stands R.steady R.tells R.keeps R.disks R.made R.handles) it x some };
+
+    ghost lost = { λ it x. parity_lost
+        (words_by R.name R.bytes R.counts R.stands R.steady R.tells R.keeps R.disks R.made R.handles) it x };
 }

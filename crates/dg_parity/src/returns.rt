@@ -28,6 +28,7 @@ pub fn mend<R: Rack>(group: &mut Group, rack: &mut R, j: u8) -> MendAnswer
     ensures parity { result ≢ MendAnswer.Plain }
     ensures silent { is_lost group.old ≡ false → is_lost group.new ≡ true → group.new.told ≡ false }
     ensures still { IsStill group.old group.new }
+    ensures remade { group.new.remade ≡ group.old.remade }
     ensures telling { group.old.told ≡ true → is_lost group.new ≡ false → group.new.told ≡ true }
     ensures was_out { (c : ℕ) → result ≡ MendAnswer.Mended c → is_out group.old j ≡ true }
     ensures idle { ((is_lost group.old ≡ true) ⊎ (is_out group.old j ≡ false)) → (group.new ≡ group.old) × (rack.new ≡ rack.old) }

@@ -5,7 +5,7 @@ ghost use Rattle.dg_parity.specs.ArrayCalls.{RackGoesOn, ReadsQuietly, WritesQui
 ghost use Rattle.dg_parity.specs.Epochs.{IsCountable, IsLeft};
 ghost use Rattle.dg_parity.specs.Groups.{disk_number, is_lost};
 ghost use Rattle.dg_parity.specs.Openings.{LeavesRead};
-ghost use Rattle.dg_parity.specs.ParityRacks.{IsNoted, IsServed, parity_bytes, parity_stands, width_in};
+ghost use Rattle.dg_parity.specs.ParityRacks.{IsNoted, IsServed, parity_bytes, parity_disks, parity_stands};
 ghost use Rattle.dg_parity.specs.Reopens.{OpensArray, ReadsOn};
 ghost use Rattle.dg_parity.specs.declared.groups.Group.{Group};
 ghost use Rattle.dg_parity.specs.declared.parity_racks.ParityRack.TheVariants.{OfGroups};
@@ -27,7 +27,8 @@ pub fn opened_again<R: Rack>()
 
 /// Headers that said which disks are out say so after any call, while the group is served.
 pub fn noted_on<R: Rack>()
-    ensures { (old new : ParityRack R) (q : ℕ) → width_in new ≡ width_in old → RackGoesOn R.Rack old new → IsServed new q → IsNoted old q → IsNoted new q }
+    ensures { (old new : ParityRack R) (q : ℕ) → (parity_disks R.Rack new).width ≡ (parity_disks R.Rack old).width → RackGoesOn R.Rack old new
+        → IsServed new q → IsNoted old q → IsNoted new q }
 {}
 
 /// Reads from a member, in as many calls as its disks that are in have passes, where none goes out. Whether that was done.

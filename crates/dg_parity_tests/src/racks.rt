@@ -1,30 +1,42 @@
 // Racks of four groups of three disks over a rack in memory.
 ghost use Rattle.std.specs.Prelude.{◌≡◌, ◌<◌, ◌*◌, ℕ, false, true, length, IfOk, IfSome, IsSome};
 ghost use Rattle.dg_parity.specs.ArrayCalls.{MendsBehind, RackGoesOn};
-ghost use Rattle.dg_parity.specs.ParityRacks.{IsNoted, parity_bytes, parity_disks, parity_stands};
+ghost use Rattle.dg_parity.specs.ParityRacks.{IsNoted, parity_bytes, parity_stands};
 ghost use Rattle.dg_parity_tests.specs.Shapes.{HasShape};
 
 use dg_io::{Disks, DropAnswer, MemRack, MendAnswer, Rack};
-use dg_parity::ParityRack;
+use dg_parity::{GroupRack, ParityRack};
 use std::alloc::Global;
 use std::test::Fail;
 
 // 69,993 bytes are 137 chunks, in 69 stripes of two.
 const SIZE: u64 = 69993;
 
-// A rack whose groups weren't made yet.
-fn made(alloc: Global) -> Result<ParityRack<MemRack>, Fail>
-    ensures { IfOk result (λ it. HasShape 4 3 it) }
+// The rack behind, in memory.
+fn behind(alloc: Global) -> Result<MemRack, Fail> {
+    Ok(MemRack::new(alloc, 64, 512 * 70, Vec::from_slice(alloc, &[])?)?)
+}
+
+// A rack of groups gives the rack behind back, as it was.
+fn given_back<R: Rack + Drop>(alloc: Global, behind: R) -> Result<R, Fail>
+    ensures { IfOk result (λ it. it ≡ behind) }
 {
-    let below = MemRack::new(alloc, 64, 512 * 70, Vec::from_slice(alloc, &[])?)?;
-    let rack = ParityRack::new(alloc, below, 4, 3)?;
+    let grouped = GroupRack::new(alloc, behind, 4, 3)?;
+    Ok(grouped.into_rack())
+}
+
+// A rack whose groups weren't made yet.
+fn made<R: Rack + Drop>(alloc: Global, behind: R) -> Result<ParityRack<R>, Fail>
+    ensures { IfOk result (λ it. HasShape R.Rack 4 3 it) }
+{
+    let rack = ParityRack::new(alloc, behind, 4, 3)?;
     Ok(rack)
 }
 
 // Makes a member anew. Whether that was done: then the headers say which disks are out.
 fn blanks<R: Rack>(rack: &mut ParityRack<R>, member: u8, size: u64) -> bool
-    requires { HasShape 4 3 rack.old }
-    ensures shape { HasShape 4 3 rack.new }
+    requires { HasShape R.Rack 4 3 rack.old }
+    ensures shape { HasShape R.Rack 4 3 rack.new }
     ensures noted { result ≡ true → IsNoted rack.new member }
 {
     match rack.blank(member, size) {
@@ -35,8 +47,8 @@ fn blanks<R: Rack>(rack: &mut ParityRack<R>, member: u8, size: u64) -> bool
 
 // The length of a member that is there.
 fn long<R: Rack>(rack: &mut ParityRack<R>, member: u8) -> Option<u64>
-    requires { HasShape 4 3 rack.old }
-    ensures shape { HasShape 4 3 rack.new }
+    requires { HasShape R.Rack 4 3 rack.old }
+    ensures shape { HasShape R.Rack 4 3 rack.new }
     ensures stands { IsSome result → parity_stands R.Rack rack.new member ≡ true }
     ensures long { IfSome result (λ n. IfSome (parity_bytes R.Rack rack.new member) (λ all. length all ≡ n)) }
 {
@@ -48,8 +60,8 @@ fn long<R: Rack>(rack: &mut ParityRack<R>, member: u8) -> Option<u64>
 
 // Reads from a member, where it has so many bytes. Whether that was done.
 fn reads<R: Rack>(rack: &mut ParityRack<R>, member: u8, place: u64, buf: &mut [u8]) -> bool
-    requires { HasShape 4 3 rack.old }
-    ensures { HasShape 4 3 rack.new }
+    requires { HasShape R.Rack 4 3 rack.old }
+    ensures { HasShape R.Rack 4 3 rack.new }
 {
     let Some(all) = long(rack, member) else {
         return false;
@@ -65,8 +77,8 @@ fn reads<R: Rack>(rack: &mut ParityRack<R>, member: u8, place: u64, buf: &mut [u
 
 // Writes to a member, where it has so many bytes. Whether that was done: then the headers say which disks are out.
 fn writes<R: Rack>(rack: &mut ParityRack<R>, member: u8, place: u64, buf: &[u8]) -> bool
-    requires { HasShape 4 3 rack.old }
-    ensures shape { HasShape 4 3 rack.new }
+    requires { HasShape R.Rack 4 3 rack.old }
+    ensures shape { HasShape R.Rack 4 3 rack.new }
     ensures noted { result ≡ true → IsNoted rack.new member }
 {
     let Some(all) = long(rack, member) else {
@@ -86,8 +98,8 @@ fn writes<R: Rack>(rack: &mut ParityRack<R>, member: u8, place: u64, buf: &[u8])
 
 // Makes a member longer. Whether that was done: then the headers say which disks are out.
 fn extends<R: Rack>(rack: &mut ParityRack<R>, member: u8, size: u64) -> bool
-    requires { HasShape 4 3 rack.old }
-    ensures shape { HasShape 4 3 rack.new }
+    requires { HasShape R.Rack 4 3 rack.old }
+    ensures shape { HasShape R.Rack 4 3 rack.new }
     ensures noted { result ≡ true → IsNoted rack.new member }
 {
     let Some(all) = long(rack, member) else {
@@ -102,26 +114,27 @@ fn extends<R: Rack>(rack: &mut ParityRack<R>, member: u8, size: u64) -> bool
     }
 }
 
-// A disk goes out. The headers of the others say so, unless the group is lost.
+// A disk goes out. The headers of the others say so, unless the group is lost. Where it was out, the rack is as it was.
 fn drops<R: Rack>(rack: &mut ParityRack<R>, s: u8, j: u8) -> DropAnswer
-    requires shape { HasShape 4 3 rack.old }
+    requires shape { HasShape R.Rack 4 3 rack.old }
     requires group { s < 4 }
     requires disk { j < 3 }
-    ensures shape { HasShape 4 3 rack.new }
+    ensures shape { HasShape R.Rack 4 3 rack.new }
     ensures noted { result ≡ DropAnswer.Dropped false → IsNoted rack.new (2 * s) }
+    ensures already { result ≡ DropAnswer.Already → rack.new ≡ rack.old }
     ensures goes_on { RackGoesOn R.Rack rack.old rack.new }
 {
     rack.drop_disk(s, j)
 }
 
-// A disk comes back, in a bounded number of calls. Where it wasn't out, the disks are as they were.
+// A disk comes back, in a bounded number of calls. Where it wasn't out, the rack is as it was.
 fn mends<R: Rack>(rack: &mut ParityRack<R>, s: u8, j: u8) -> MendAnswer
-    requires shape { HasShape 4 3 rack.old }
+    requires shape { HasShape R.Rack 4 3 rack.old }
     requires group { s < 4 }
     requires disk { j < 3 }
-    ensures shape { HasShape 4 3 rack.new }
+    ensures shape { HasShape R.Rack 4 3 rack.new }
     ensures noted { (c : ℕ) → result ≡ MendAnswer.Mended c → IsNoted rack.new (2 * s) }
-    ensures idle { result ≡ MendAnswer.NotOut → parity_disks R.Rack rack.new ≡ parity_disks R.Rack rack.old }
+    ensures not_out { result ≡ MendAnswer.NotOut → rack.new ≡ rack.old }
     ensures goes_on { RackGoesOn R.Rack rack.old rack.new }
     ensures calls { MendsBehind R.Rack rack.old rack.new s }
 {
@@ -131,7 +144,7 @@ fn mends<R: Rack>(rack: &mut ParityRack<R>, s: u8, j: u8) -> MendAnswer
 // Block 3 of boundary 3 begins at byte 512 of its member.
 #[test]
 fn a_member_without_a_disk(rt: HostRuntime) -> Result<(), Fail> {
-    let mut rack = made(rt.alloc())?;
+    let mut rack = made(rt.alloc(), behind(rt.alloc())?)?;
     let mut buf = [0; 1024];
     let mut got = [1; 1024];
     assert!(rt; blanks(&mut rack, 6, SIZE));
@@ -160,7 +173,7 @@ fn is_longer(got: &[u8; 2000]) -> bool {
 
 #[test]
 fn a_longer_member(rt: HostRuntime) -> Result<(), Fail> {
-    let mut rack = made(rt.alloc())?;
+    let mut rack = made(rt.alloc(), behind(rt.alloc())?)?;
     let mut got = [1; 2000];
     assert!(rt; blanks(&mut rack, 2, 700));
     assert!(rt; writes(&mut rack, 2, 0, &[0xff; 700]));
@@ -178,7 +191,7 @@ fn a_longer_member(rt: HostRuntime) -> Result<(), Fail> {
 
 #[test]
 fn members_that_are_not_there(rt: HostRuntime) -> Result<(), Fail> {
-    let mut rack = made(rt.alloc())?;
+    let mut rack = made(rt.alloc(), given_back(rt.alloc(), behind(rt.alloc())?)?)?;
     assert!(rt; rack.disks() == Some(3));
     assert!(rt; long(&mut rack, 0) == None);
     assert!(rt; drops(&mut rack, 0, 0) == DropAnswer::Already);

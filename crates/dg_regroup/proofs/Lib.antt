@@ -9,7 +9,6 @@ mod LawLemmas
 mod LeftLemmas
 mod LiveCalls
 mod LiveCommits
-mod LiveDisks
 mod MarkLemmas
 mod PlaceLemmas
 mod ReadLemmas

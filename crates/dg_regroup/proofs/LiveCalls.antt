@@ -15,7 +15,7 @@ use Rattle.dg_model.specs.Causes.{RoseByOne}
 use Rattle.dg_model.specs.Lives.{member_at}
 use Rattle.dg_regroup.specs.LiveMade.{LiveMade, call_below, is_passed}
 use Rattle.dg_regroup.specs.LivePlaces.{by_there, member_differs}
-use Rattle.dg_regroup.specs.LiveRacks.{AreOwn, IsKeptAt, is_there, live_bytes, live_counts, live_keeps, live_name, live_stands, live_steady}
+use Rattle.dg_regroup.specs.LiveRacks.{AreOwn, IsKeptAt, IsThrough, is_there, live_bytes, live_counts, live_keeps, live_name, live_stands, live_steady}
 use Rattle.dg_regroup.specs.declared.live_racks.LiveRack.{LiveRack}
 
 rose_more : (before now own : ℕ) → RoseByOne before now → RoseByOne (before + own) (now + own)
@@ -35,13 +35,6 @@ here_is true b is = is
 here_is false b is = absurd (false≢true is)
 
 module _ {R : Type 0} (rack : Ghosts R) where
-  -- only the rack below is another one
-  pub record IsThrough (old new : LiveRack R) : Type 0 where
-    pub live : new.live ≡ old.live
-    pub absent : new.absent ≡ old.absent
-    pub calls : new.calls ≡ old.calls
-    pub writes : new.writes ≡ old.writes
-
   pub leaves_through : {T E : Type 0} (member : ℕ) (result : Result T E) (it new : LiveRack R) → IsThrough it new → is_there it.live.items member ≡ true
       → Leaves rack (member_at it.live.items member) result it.rack new.rack
       → LeavesRack (live_name rack) (live_bytes rack) (live_counts rack) (live_stands rack) (live_steady rack) member result it new

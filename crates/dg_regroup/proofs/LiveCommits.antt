@@ -1,5 +1,5 @@
 -- What a commit leaves of a rack of the boundaries in use, by what it left of the rack below.
-use Rattle.std.proofs.Common.{◌≡◌, ◌∙◌, ◌≤◌, ◌&&◌, inl, inr, ℕ, Bool, true, false, List, Option, None, Some, nat_lt, length, if◌then◌else◌, refl, sym, subst, arith}
+use Rattle.std.proofs.Common.{◌≡◌, ◌∙◌, ◌≤◌, ◌&&◌, inl, inr, ℕ, Bool, true, false, List, Option, None, Some, nat_lt, length, if◌then◌else◌, refl, sym, ap, subst, arith}
 use Rattle.std.proofs.lemmas.Bool.{cases_Bool, false≢true}
 use Rattle.dg_io.specs.Commits.{IsNewKept, KeptAfter, LeavesCommit, fell_in, is_marked}
 use Rattle.dg_io.specs.Disks.{DisksFall}
@@ -12,10 +12,10 @@ use Rattle.dg_model.specs.Causes.{Rose}
 use Rattle.dg_model.specs.Lives.{boundary_at, member_at}
 use Rattle.dg_regroup.specs.LiveGhosts.{live as live_words}
 use Rattle.dg_regroup.specs.LivePlaces.{by_there}
-use Rattle.dg_regroup.specs.LiveRacks.{IsKeptAt, is_there, live_disks, live_keeps, live_room, live_stands}
+use Rattle.dg_regroup.specs.LiveRacks.{IsKeptAt, IsThrough, is_there, live_disks, live_groups, live_keeps, live_room, live_stands}
 use Rattle.dg_regroup.specs.Marks.{AreMarksBelow, AreMarksHere, IsAnswerHere}
 use Rattle.dg_regroup.specs.declared.live_racks.LiveRack.{LiveRack}
-use Rattle.dg_regroup.proofs.LiveCalls.{IsThrough, here_only}
+use Rattle.dg_regroup.proofs.LiveCalls.{here_only}
 
 both_are : (a b : Bool) → (a && b) ≡ true → (a ≡ true) × (b ≡ true)
 both_are true true is = (refl, refl)
@@ -26,7 +26,7 @@ both_are false b is = absurd (false≢true is)
 abbrev pub by_places : List ℕ → Kept → Kept
 by_places live next = record { entries = λ q. if is_there live q then next.entries (member_at live q) else None; extra = next.extra }
 
-module _ {R : Type 0} (rack : Ghosts R) (room : R → Option ℕ) (keep below : ℕ) (extra : List ℕ) (it new : LiveRack R) (same : IsThrough rack it new)
+module _ {R : Type 0} (rack : Ghosts R) (room : R → Option ℕ) (keep below : ℕ) (extra : List ℕ) (it new : LiveRack R) (same : IsThrough it new)
     (marks : AreMarksBelow it.live.items keep below) (stand : (q : ℕ) → is_marked keep q ≡ true → live_stands rack it q ≡ true) where
   -- who is to be kept is there
   kept_there : (q : ℕ) → is_marked keep q ≡ true → is_there it.live.items q ≡ true
@@ -46,6 +46,7 @@ module _ {R : Type 0} (rack : Ghosts R) (room : R → Option ℕ) (keep below : 
   disks_fall_through : DisksFall (rack.disks it.rack) (rack.disks new.rack) → DisksFall (live_disks rack it) (live_disks rack new)
   disks_fall_through fall = rw same.live (record {
     rises = record {
+      same = record { width = fall.rises.same.width; count = ap (λ (n : ℕ). live_groups n it.live.items) fall.rises.same.count };
       rise = λ s j. by_there ◌≤◌ (nat_lt s (length it.live.items)) _ _ _ _ (λ h. fall.rises.rise (boundary_at it.live.items s) j) (λ gone. omega arith);
       cause = λ s j. went (nat_lt s (length it.live.items)) _ _ _ _ (fall.rises.cause (boundary_at it.live.items s) j);
     };

@@ -1,7 +1,7 @@
 -- What a rack of which some members show their first bytes alone means, by what the rack below means.
 use Rattle.dg_io.specs.declared.outside.Rack.{Ghosts}
 use Rattle.dg_regroup.specs.FrontMade.{FrontMade, front_disks}
-use Rattle.dg_regroup.specs.FrontRacks.{front_bytes, front_counts, front_keeps, front_name, front_stands, front_steady, front_tells}
+use Rattle.dg_regroup.specs.FrontRacks.{FrontHandles, front_bytes, front_counts, front_keeps, front_name, front_stands, front_steady, front_tells}
 use Rattle.dg_regroup.specs.declared.front_racks.FrontRack.{FrontRack}
 
 abbrev pub front : {R : Type 0} → Ghosts R → Ghosts (FrontRack R)
@@ -15,4 +15,5 @@ front rack = record {
   keeps = front_keeps rack;
   disks = front_disks rack;
   made = FrontMade rack;
+  handles = FrontHandles rack;
 }

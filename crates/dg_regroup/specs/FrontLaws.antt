@@ -1,6 +1,7 @@
 -- Calls of a rack of which some members show their first bytes alone leave what each of them leaves.
-use Rattle.std.proofs.Common.{◌≡◌, ◌∙◌, ◌&&◌, ℕ, Bool, true, false, not, is_some, List, [], ◌∷◌, ◌++◌, Option, None, Some, IsSome, inl, inr, length, refl, sym, ap, subst, arith}
+use Rattle.std.proofs.Common.{◌≡◌, ◌∙◌, ◌&&◌, ◌+◌, ◌*◌, ℕ, Bool, true, false, not, is_some, List, [], ◌∷◌, ◌++◌, Option, None, Some, IfSome, IsSome, inl, inr, length, refl, sym, ap, subst, arith}
 use Rattle.std.proofs.lemmas.Bool.{and_parts, false≢true}
+use Rattle.dg_io.specs.DiskAnswers.{HandlesAs, is_group_lost}
 use Rattle.dg_io.specs.Kept.{KeepsOn}
 use Rattle.dg_io.specs.MadeLaws.{each_back, each_front, same_both, same_told}
 use Rattle.dg_io.specs.Disks.{DiskStates, DisksAfter}
@@ -9,9 +10,10 @@ use Rattle.dg_io.specs.RackCalls.RackCall.{looks, blanks, calls, extends}
 use Rattle.dg_io.specs.RackWords.{After}
 use Rattle.dg_io.specs.Told.{IsSame, Told}
 use Rattle.dg_io.specs.declared.outside.Rack.{Ghosts}
+use Rattle.std.specs.Prelude.{slice_index_or}
 use Rattle.dg_regroup.specs.FrontGhosts.{front}
 use Rattle.dg_regroup.specs.FrontMade.{AreFor, FrontMade, IsFor}
-use Rattle.dg_regroup.specs.FrontRacks.{front_keeps, front_of, is_front, is_hidden, shown}
+use Rattle.dg_regroup.specs.FrontRacks.{FrontHandles, front_keeps, front_of, is_front, is_hidden, shown}
 use Rattle.dg_regroup.specs.declared.front_racks.FrontRack.{FrontRack}
 
 -- ---- what a member shows
@@ -81,6 +83,11 @@ for_disks made below old new are after = record {
 still_front : (was is : Bool) → (was ≡ false → is ≡ false) → is ≡ true → was ≡ true
 still_front true is still front = refl
 still_front false is still front = absurd (false≢true (sym (still refl) ∙ front))
+
+-- one that doesn't stand below doesn't stand
+not_shown : (hidden up : Bool) → up ≡ false → (not hidden && up) ≡ false
+not_shown true up down = refl
+not_shown false up down = down
 
 module _ {R : Type 0} (rack : Ghosts R) where
   pub front_none : ((s : R) → rack.made s [] s) → (s : FrontRack R) → FrontMade rack s [] s
@@ -171,3 +178,40 @@ module _ {R : Type 0} (rack : Ghosts R) where
         keeps_on = λ each. keeps_shown a b done.length (done.same_fronts each) (under.keeps_on (each_for IsNoBlank (λ q h. h) made done.passed done.are_for each));
         disks_after = for_disks made done.passed (rack.disks a.rack) (rack.disks b.rack) done.are_for under.disks_after;
       }
+
+  -- what a call on a disk leaves
+  pub front_handled : ((a b : R) (s j : ℕ) → rack.handles a s j b → HandlesAs rack s j a b)
+      → (a b : FrontRack R) (s j : ℕ) → FrontHandles rack a s j b → HandlesAs (front rack) s j a b
+  front_handled law a b s j h = let under = law a.rack b.rack s j h.below in record {
+    one = under.one;
+    leaves = record {
+      same_rack = under.leaves.same_rack;
+      steady_on = under.leaves.steady_on;
+      counts_stay = rw (h.refused, h.writes, under.leaves.counts_stay) refl;
+      others_stand = λ q differ. rw (h.fronts, h.length, under.leaves.others_stand q differ) refl;
+      stands_on = λ served. rw (h.fronts, h.length, under.leaves.stands_on served) refl;
+      same = λ q. shows_same a b q h.length (shows q) (under.leaves.same q);
+      told_before = under.leaves.told_before;
+      keeps_on = keeps_shown a b h.length shows under.leaves.keeps_on;
+    };
+  }
+    where
+      shows : (q : ℕ) → is_front b q ≡ is_front a q
+      shows q = ap (λ fronts. slice_index_or fronts q false) h.fronts
+
+-- ---- groups of disks
+
+module _ {R : Type 0} (disks : R → DiskStates) (stands : R → ℕ → Bool) where
+  -- no second member stands of a rack of groups
+  pub front_single : ((s : R) (x : ℕ) → IsSome (disks s).width → stands s (2 * x + 1) ≡ false)
+      → (it : FrontRack R) (x : ℕ) → IsSome (disks it.rack).width → (not (is_hidden it (2 * x + 1)) && stands it.rack (2 * x + 1)) ≡ false
+  front_single law it x some = not_shown (is_hidden it (2 * x + 1)) (stands it.rack (2 * x + 1)) (law it.rack x some)
+
+  -- and none of a group of which two disks are out
+  pub front_lost : ((s : R) (x : ℕ) → IfSome (disks s).width (λ n. is_group_lost n (disks s).out x ≡ true → stands s (2 * x) ≡ false))
+      → (it : FrontRack R) (x : ℕ) → IfSome (disks it.rack).width (λ n. is_group_lost n (disks it.rack).out x ≡ true → (not (is_hidden it (2 * x)) && stands it.rack (2 * x)) ≡ false)
+  front_lost law it x = some (disks it.rack).width (law it.rack x) where
+    some : (width : Option ℕ) → IfSome width (λ n. is_group_lost n (disks it.rack).out x ≡ true → stands it.rack (2 * x) ≡ false)
+        → IfSome width (λ n. is_group_lost n (disks it.rack).out x ≡ true → (not (is_hidden it (2 * x)) && stands it.rack (2 * x)) ≡ false)
+    some None down = tt
+    some (Some n) down = λ is. not_shown (is_hidden it (2 * x)) (stands it.rack (2 * x)) (down is)

@@ -87,13 +87,15 @@ pub record FrontCommits {R : Type 0} (commits : R → R → Type 0) (old new : F
   pub refused : new.refused ≡ old.refused
   pub writes : new.writes ≡ old.writes
 
--- ---- the checkpoint's room, and the groups of disks
+-- What a call on a disk may leave of it: what it may leave of the rack below, and nothing else has changed.
+pub record FrontHandles {R : Type 0} (rack : Ghosts R) (old : FrontRack R) (s j : ℕ) (new : FrontRack R) : Type 0 where
+  pub below : rack.handles old.rack s j new.rack
+  pub length : new.length ≡ old.length
+  pub fronts : new.fronts ≡ old.fronts
+  pub refused : new.refused ≡ old.refused
+  pub writes : new.writes ≡ old.writes
+
+-- ---- the checkpoint's room
 
 abbrev pub front_room : {R : Type 0} → (R → Option ℕ) → FrontRack R → Option ℕ
 front_room room it = room it.rack
-
-abbrev pub front_width : {R : Type 0} → (R → Option ℕ) → FrontRack R → Option ℕ
-front_width width it = width it.rack
-
-abbrev pub front_groups : {R : Type 0} → (R → ℕ) → FrontRack R → ℕ
-front_groups groups it = groups it.rack

@@ -7,6 +7,7 @@ pub mod FrontGhosts
 pub mod FrontLaws
 pub mod FrontMade
 pub mod FrontRacks
+pub mod LiveDisks
 pub mod LiveGhosts
 pub mod LiveLaws
 pub mod LiveMade

@@ -1,10 +1,11 @@
 -- Calls of a rack of the boundaries in use leave what each of them leaves.
-use Rattle.std.proofs.Common.{◌≡◌, ◌≢◌, ◌∙◌, ◌+◌, ◌/◌, ◌<◌, ◌≤◌, ℕ, Bool, true, false, List, [], ◌++◌, Option, None, Some, IsSome, length, nat_lt, if◌then◌else◌, refl, sym, subst, arith}
+use Rattle.std.proofs.Common.{◌≡◌, ◌≢◌, ◌∙◌, ◌+◌, ◌*◌, ◌/◌, ◌<◌, ◌≤◌, ℕ, Bool, true, false, List, [], ◌++◌, Option, None, Some, IfSome, IsSome, length, nat_lt, if◌then◌else◌, refl, sym, ap, subst, arith}
 use Rattle.std.specs.Global.{Vec}
 use Rattle.std.specs.List.Sorted.{IsStrictlyIncreasing}
 use Rattle.std.proofs.lemmas.Bool.{false≢true}
 use Rattle.std.proofs.lemmas.Bool.Decides.{nat_tests}
-use Rattle.dg_io.specs.Disks.{DisksAfter, IsGroupSame}
+use Rattle.dg_io.specs.DiskAnswers.{is_group_lost}
+use Rattle.dg_io.specs.Disks.{DiskStates, DisksAfter, IsGroupSame}
 use Rattle.dg_io.specs.Kept.{KeepsOn}
 use Rattle.dg_io.specs.MadeLaws.{each_back, each_front}
 use Rattle.dg_io.specs.RackCalls.{RackCall, Each, IsNoBlank, IsNoBlankAt, IsNotAt, IsNotOn}
@@ -16,8 +17,8 @@ use Rattle.dg_model.specs.Causes.{Rose}
 use Rattle.dg_model.specs.Lives.{boundary_at, member_at}
 use Rattle.dg_regroup.specs.LiveGhosts.{live as live_words}
 use Rattle.dg_regroup.specs.LiveMade.{LiveMade, call_below, calls_below, count_absent, is_passed}
-use Rattle.dg_regroup.specs.LivePlaces.{by_there, calls_below_both, calls_counted, count_absent_both, each_below, live_differs, member_differs}
-use Rattle.dg_regroup.specs.LiveRacks.{is_there, live_disks, live_keeps, passed}
+use Rattle.dg_regroup.specs.LivePlaces.{by_there, calls_below_both, calls_counted, count_absent_both, each_below, first_member, live_differs, member_differs, second_member}
+use Rattle.dg_regroup.specs.LiveRacks.{disks_at, is_there, live_disks, live_groups, live_keeps, passed}
 use Rattle.dg_regroup.specs.declared.live_racks.LiveRack.{LiveRack}
 
 -- what tells its bytes, and what that is worth, of members that are there
@@ -32,6 +33,36 @@ live_told bytes stands tells law s q told stand = one (is_there s.live.items q) 
   one : (there : Bool) → is_there s.live.items q ≡ there → IsSome (passed s.live.items (bytes s.rack) (λ q. Some []) q)
   one true here = rw here (law s.rack (member_at s.live.items q) (told here) (rw here at stand))
   one false gone = rw gone refl
+
+-- the disks of a boundary in use that are out are those of its group below
+pub out_at : (live : List ℕ) (s : ℕ) (disks : DiskStates) → nat_lt s (length live) ≡ true → (disks_at live disks).out s ≡ disks.out (boundary_at live s)
+out_at live s disks here = ap (λ (b : Bool). λ (i : ℕ). if b then disks.out (boundary_at live s) i else false) here
+
+-- one that doesn't stand below, where it is there, doesn't stand
+not_there : (there up : Bool) → (there ≡ true → up ≡ false) → (if there then up else false) ≡ false
+not_there true up down = down refl
+not_there false up down = refl
+
+module _ {R : Type 0} (disks : R → DiskStates) (stands : R → ℕ → Bool) where
+  -- no second member stands of a rack of groups
+  pub live_single : ((s : R) (x : ℕ) → IsSome (disks s).width → stands s (2 * x + 1) ≡ false)
+      → (it : LiveRack R) (x : ℕ) → IsSome (disks it.rack).width → passed it.live.items (stands it.rack) (λ q. false) (2 * x + 1) ≡ false
+  live_single law it x some =
+      let down = subst (λ (q : ℕ). stands it.rack q ≡ false) (sym (second_member it.live.items x)) (law it.rack (boundary_at it.live.items x) some) in
+      not_there (is_there it.live.items (2 * x + 1)) (stands it.rack (member_at it.live.items (2 * x + 1))) (λ here. down)
+
+  -- and none of a group of which two disks are out
+  pub live_lost : ((s : R) (x : ℕ) → IfSome (disks s).width (λ n. is_group_lost n (disks s).out x ≡ true → stands s (2 * x) ≡ false))
+      → (it : LiveRack R) (x : ℕ) → IfSome (disks it.rack).width (λ n. is_group_lost n (disks_at it.live.items (disks it.rack)).out x ≡ true → passed it.live.items (stands it.rack) (λ q. false) (2 * x) ≡ false)
+  live_lost law it x = some (disks it.rack).width (law it.rack (boundary_at it.live.items x)) where
+    some : (width : Option ℕ) → IfSome width (λ n. is_group_lost n (disks it.rack).out (boundary_at it.live.items x) ≡ true → stands it.rack (2 * boundary_at it.live.items x) ≡ false)
+        → IfSome width (λ n. is_group_lost n (disks_at it.live.items (disks it.rack)).out x ≡ true → passed it.live.items (stands it.rack) (λ q. false) (2 * x) ≡ false)
+    some None down = tt
+    some (Some n) down = λ is. not_there (is_there it.live.items (2 * x)) (stands it.rack (member_at it.live.items (2 * x))) (λ here.
+        let half : 2 * x / 2 ≡ x = omega arith in
+        let within : nat_lt x (length it.live.items) ≡ true = rw half at here in
+        let group = subst (λ (p : ℕ → Bool). is_group_lost n (λ t. p) x ≡ true) (out_at it.live.items x (disks it.rack) within) is in
+        subst (λ (q : ℕ). stands it.rack q ≡ false) (sym (first_member it.live.items x)) (down group))
 
 module _ {R : Type 0} (rack : Ghosts R) where
   -- what just these calls leave, by what this means of it
@@ -112,6 +143,7 @@ module _ {R : Type 0} (rack : Ghosts R) where
       → DisksAfter made (live_disks rack a) (live_disks rack b)
   disks_through a b made same after = let live = a.live.items in rw same (record {
     rises = record {
+      same = record { width = after.rises.same.width; count = ap (λ (n : ℕ). live_groups n a.live.items) after.rises.same.count };
       rise = λ s j. by_there ◌≤◌ (nat_lt s (length live)) _ _ _ _ (λ here. after.rises.rise (boundary_at live s) j) (λ gone. omega arith);
       cause = λ s j. went (nat_lt s (length live)) _ _ _ _ (after.rises.cause (boundary_at live s) j);
     };
@@ -135,7 +167,7 @@ module _ {R : Type 0} (rack : Ghosts R) where
 
   -- ---- the law
 
-  keeps_through : (a b : LiveRack R) → b.live ≡ a.live → KeepsOn rack.keeps a.rack b.rack → KeepsOn (live_keeps rack) a b
+  pub keeps_through : (a b : LiveRack R) → b.live ≡ a.live → KeepsOn rack.keeps a.rack b.rack → KeepsOn (live_keeps rack) a b
   keeps_through a b same on None keeps = (keeps.0, on keeps.0 keeps.1)
   keeps_through a b same on (Some kept) keeps = (keeps.0, on (Some keeps.0) keeps.1, rw same keeps.2)
 

@@ -8,8 +8,8 @@ use Rattle.std.proofs.lemmas.Bool.Decides.{nat_tests}
 use Rattle.std.proofs.lemmas.List.Kept.{AllPairs-from_increasing}
 use Rattle.std.specs.List.Sorted.{IsStrictlyIncreasing}
 use Rattle.dg_io.specs.RackCalls.{RackCall, Each}
-use Rattle.dg_model.specs.Lives.{member_at}
-use Rattle.dg_regroup.specs.LiveRacks.{is_there}
+use Rattle.dg_model.specs.Lives.{boundary_at, member_at}
+use Rattle.dg_regroup.specs.LiveRacks.{is_there, live_groups}
 use Rattle.dg_regroup.specs.LiveMade.{call_below, calls_below, count_absent, is_passed}
 
 -- different boundaries in use have different numbers
@@ -38,6 +38,21 @@ member_differs live p q rise one other differ same = elim (cases_order (p / 2) (
   ]
 ]
 
+-- the members at a boundary's place, by the boundary's number
+pub first_member : (live : List ℕ) (x : ℕ) → member_at live (2 * x) ≡ 2 * boundary_at live x
+first_member live x =
+    let half : 2 * x / 2 ≡ x = omega arith in
+    let same : boundary_at live (2 * x / 2) ≡ boundary_at live x = rw half refl in
+    let even : 2 * x % 2 ≡ 0 = omega arith in
+    omega (arith, same, even)
+
+pub second_member : (live : List ℕ) (x : ℕ) → member_at live (2 * x + 1) ≡ 2 * boundary_at live x + 1
+second_member live x =
+    let half : (2 * x + 1) / 2 ≡ x = omega arith in
+    let same : boundary_at live ((2 * x + 1) / 2) ≡ boundary_at live x = rw half refl in
+    let odd : (2 * x + 1) % 2 ≡ 1 = omega arith in
+    omega (arith, same, odd)
+
 -- ---- the groups of the rack below are the first boundaries in use
 
 pub few_pass : (p : ℕ → Bool) (xs : List ℕ) → length (filter p xs) ≤ length xs
@@ -50,7 +65,7 @@ none_pass p (x ∷ xs) none =
     let rest = none_pass p xs (λ i low. none (suc i) (omega (arith, low))) in
     rw first rest
 
-pub first_groups : (most : ℕ) (live : List ℕ) (s : ℕ) → IsStrictlyIncreasing live → s < length (filter (λ t. nat_lt t most) live) → slice_index live s < most
+pub first_groups : (most : ℕ) (live : List ℕ) (s : ℕ) → IsStrictlyIncreasing live → s < live_groups most live → slice_index live s < most
 first_groups most live s rise few = elim (cases_lt (slice_index live s) most) [ inl is ↦ is | inr high ↦ absurd (omega (arith, few, parts, few_pass below (take s live), length-take s live, none high)) ] where
   below : ℕ → Bool
   below t = nat_lt t most

@@ -1,5 +1,5 @@
 -- A rack of the boundaries in use. The rules are this project's own.
-use Rattle.std.specs.Prelude.{◌≡◌, ◌+◌, ◌*◌, ◌/◌, nat_lt, ℕ, Bool, true, false, List, [], ◌∷◌, Option, Some, None, if◌then◌else◌, filter, length, map, slice_index}
+use Rattle.std.specs.Prelude.{◌≡◌, ◌<◌, ◌+◌, ◌*◌, ◌/◌, nat_lt, ℕ, Bool, true, false, List, [], ◌∷◌, Option, Some, None, if◌then◌else◌, filter, length, map, slice_index}
 use Rattle.dg_io.specs.Disks.{DiskStates}
 use Rattle.dg_io.specs.Kept.{Kept, IsNothing}
 use Rattle.dg_io.specs.Reduced.{places_left}
@@ -89,12 +89,21 @@ abbrev pub live_keeps : {R : Type 0} → Ghosts R → LiveRack R → Option Kept
 live_keeps rack it None = (below : Option Kept) × rack.keeps it.rack below
 live_keeps rack it (Some kept) = (below : Kept) × rack.keeps it.rack (Some below) × IsKeptAt it.live.items below kept
 
--- the disks of the boundaries in use. No other one has disks
-abbrev pub live_disks : {R : Type 0} → Ghosts R → LiveRack R → DiskStates
-live_disks rack it = record {
-  out = λ s j. if nat_lt s (length it.live.items) then (rack.disks it.rack).out (boundary_at it.live.items s) j else false;
-  faults = λ s j. if nat_lt s (length it.live.items) then (rack.disks it.rack).faults (boundary_at it.live.items s) j else 0;
+-- how many of the boundaries in use are among the first so many of the rack below. They are the first of them
+abbrev pub live_groups : ℕ → List ℕ → ℕ
+live_groups groups live = length (filter (λ s. nat_lt s groups) live)
+
+-- the disks of the boundaries in use, by places. No other one has disks
+abbrev pub disks_at : List ℕ → DiskStates → DiskStates
+disks_at live disks = record {
+  width = disks.width;
+  groups = live_groups disks.groups live;
+  out = λ s j. if nat_lt s (length live) then disks.out (boundary_at live s) j else false;
+  faults = λ s j. if nat_lt s (length live) then disks.faults (boundary_at live s) j else 0;
 }
+
+abbrev pub live_disks : {R : Type 0} → Ghosts R → LiveRack R → DiskStates
+live_disks rack it = disks_at it.live.items (rack.disks it.rack)
 
 -- What a commit may leave of it, beside its members: what it may leave of the rack below, and nothing else has changed.
 pub record LiveCommits {R : Type 0} (commits : R → R → Type 0) (old new : LiveRack R) : Type 0 where
@@ -104,15 +113,20 @@ pub record LiveCommits {R : Type 0} (commits : R → R → Type 0) (old new : Li
   pub calls : new.calls ≡ old.calls
   pub writes : new.writes ≡ old.writes
 
--- ---- the checkpoint's room, and the groups of disks
+-- only the rack below is another one
+pub record IsThrough {R : Type 0} (old new : LiveRack R) : Type 0 where
+  pub live : new.live ≡ old.live
+  pub absent : new.absent ≡ old.absent
+  pub calls : new.calls ≡ old.calls
+  pub writes : new.writes ≡ old.writes
+
+-- What a call on a disk of the boundary at a place may leave of it: that is one in use, and it is what it may leave of the rack below.
+pub record LiveHandles {R : Type 0} (rack : Ghosts R) (old : LiveRack R) (s j : ℕ) (new : LiveRack R) : Type 0 where
+  pub in_use : s < length old.live.items
+  pub below : rack.handles old.rack (boundary_at old.live.items s) j new.rack
+  pub through : IsThrough old new
+
+-- ---- the checkpoint's room
 
 abbrev pub live_room : {R : Type 0} → (R → Option ℕ) → LiveRack R → Option ℕ
 live_room room it = room it.rack
-
--- how many disks a group has
-abbrev pub live_width : {R : Type 0} → (R → Option ℕ) → LiveRack R → Option ℕ
-live_width width it = width it.rack
-
--- how many of the boundaries in use are groups of the rack below. They are the first of them
-abbrev pub live_groups : {R : Type 0} → (R → ℕ) → LiveRack R → ℕ
-live_groups groups it = length (filter (λ s. nat_lt s (groups it.rack)) it.live.items)

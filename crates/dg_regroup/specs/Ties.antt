@@ -8,7 +8,7 @@ use Rattle.dg_io.specs.RackCalls.{IsReadOrWrite, RackCall}
 use Rattle.dg_io.specs.RackCalls.RackCall.{blanks, calls, extends, looks}
 use Rattle.dg_io.specs.RackWords.{MadeOnly}
 use Rattle.dg_io.specs.declared.outside.Rack.{Ghosts}
-use Rattle.dg_model.specs.Lives.{member_at}
+use Rattle.dg_model.specs.Lives.{boundary_at, member_at}
 use Rattle.dg_regroup.specs.FrontGhosts.{front}
 use Rattle.dg_regroup.specs.FrontLaws.{each_for, front_both, front_none}
 use Rattle.dg_regroup.specs.FrontMade.{IsNoExtend}
@@ -16,7 +16,7 @@ use Rattle.dg_regroup.specs.FrontRacks.{FrontCommits, front_counts, rack_behind}
 use Rattle.dg_regroup.specs.LiveGhosts.{live}
 use Rattle.dg_regroup.specs.LiveMade.{call_below, is_passed}
 use Rattle.dg_regroup.specs.LivePassing.{PassesOn, passes_on}
-use Rattle.dg_regroup.specs.LiveRacks.{LiveCommits, is_there, live_counts, live_in, rack_in}
+use Rattle.dg_regroup.specs.LiveRacks.{LiveCommits, LiveHandles, is_there, live_counts, live_in, rack_in}
 use Rattle.dg_regroup.specs.declared.front_racks.FrontRack.{FrontRack}
 use Rattle.dg_regroup.specs.declared.live_racks.LiveRack.{LiveRack}
 
@@ -107,3 +107,8 @@ module _ {R : Type 0} (rack : Ghosts R) where
 -- what a commit by places left of the rack below
 pub commits_by_places : {R : Type 0} (commits : R → R → Type 0) (a b : LiveRack (FrontRack R)) → LiveCommits (FrontCommits commits) a b → commits (rack_behind (rack_in a)) (rack_behind (rack_in b))
 commits_by_places commits a b leaves = leaves.below.below
+
+-- and what a call on a disk of a boundary in use may leave of it
+pub handles_by_places : {R : Type 0} (rack : Ghosts R) (s j : ℕ) (a b : LiveRack (FrontRack R)) → LiveHandles (front rack) a s j b
+    → rack.handles (rack_behind (rack_in a)) (boundary_at (live_in a) s) j (rack_behind (rack_in b))
+handles_by_places rack s j a b leaves = leaves.below.below

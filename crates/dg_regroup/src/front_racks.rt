@@ -128,7 +128,7 @@ impl<R: Rack> FrontRack<R> {
 }
 
 impl<R: Rack> Rack for FrontRack<R> {
-    ghost use Rattle.dg_regroup.specs.FrontRacks.{front_bytes, front_counts, front_keeps, front_name, front_stands, front_steady, front_tells};
+    ghost use Rattle.dg_regroup.specs.FrontRacks.{FrontHandles, front_bytes, front_counts, front_keeps, front_name, front_stands, front_steady, front_tells};
     ghost use Rattle.dg_regroup.specs.FrontMade.{FrontMade, front_disks};
     ghost use Rattle.dg_regroup.specs.FrontLaws.{front_after, front_both, front_none, front_told, front_tells_told};
 
@@ -149,6 +149,8 @@ impl<R: Rack> Rack for FrontRack<R> {
     ghost disks = { front_disks R.Rack };
 
     ghost made = { FrontMade R.Rack };
+
+    ghost handles = { FrontHandles R.Rack };
 
     fn blank(&mut self, member: u8, length: u64) -> Result<(), Failed> {
         self.fronts[member as usize] = false;
@@ -205,11 +207,7 @@ impl<R: Checkpoint> Checkpoint for FrontRack<R> {
 }
 
 impl<R: Disks> Disks for FrontRack<R> {
-    ghost use Rattle.dg_regroup.specs.FrontRacks.{front_groups, front_width};
-
-    ghost width = { front_width R.width };
-
-    ghost groups = { front_groups R.groups };
+    ghost use Rattle.dg_regroup.specs.FrontLaws.{front_handled, front_lost, front_single};
 
     fn drop_disk(&mut self, s: u8, j: u8) -> DropAnswer {
         self.rack.drop_disk(s, j)
@@ -222,4 +220,10 @@ impl<R: Disks> Disks for FrontRack<R> {
     fn disks(&self) -> Option<u8> {
         self.rack.disks()
     }
+
+    ghost handled = { λ a b s j h. front_handled _ R.handled a b s j h };
+
+    ghost single = { λ it x some. front_single R.disks R.stands R.single it x some };
+
+    ghost lost = { λ it x. front_lost R.disks R.stands R.lost it x };
 }

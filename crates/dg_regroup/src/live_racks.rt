@@ -149,7 +149,7 @@ impl<R> LiveRack<R> {
 }
 
 impl<R: Rack> Rack for LiveRack<R> {
-    ghost use Rattle.dg_regroup.specs.LiveRacks.{live_bytes, live_counts, live_disks, live_keeps, live_name, live_stands, live_steady, live_tells};
+    ghost use Rattle.dg_regroup.specs.LiveRacks.{LiveHandles, live_bytes, live_counts, live_disks, live_keeps, live_name, live_stands, live_steady, live_tells};
     ghost use Rattle.dg_regroup.specs.LiveMade.{LiveMade};
     ghost use Rattle.dg_regroup.specs.LiveLaws.{live_after, live_both, live_none, live_told, live_tells_told};
 
@@ -170,6 +170,8 @@ impl<R: Rack> Rack for LiveRack<R> {
     ghost disks = { live_disks R.Rack };
 
     ghost made = { LiveMade R.Rack };
+
+    ghost handles = { LiveHandles R.Rack };
 
     fn blank(&mut self, member: u8, length: u64) -> Result<(), Failed> {
         match self.number(member) {
@@ -259,11 +261,8 @@ impl<R: Checkpoint> Checkpoint for LiveRack<R> {
 }
 
 impl<R: Disks> Disks for LiveRack<R> {
-    ghost use Rattle.dg_regroup.specs.LiveRacks.{live_groups, live_width};
-
-    ghost width = { live_width R.width };
-
-    ghost groups = { live_groups R.groups };
+    ghost use Rattle.dg_regroup.specs.LiveDisks.{live_handled};
+    ghost use Rattle.dg_regroup.specs.LiveLaws.{live_lost, live_single};
 
     fn drop_disk(&mut self, s: u8, j: u8) -> DropAnswer {
         match self.live.get(s as usize) {
@@ -282,4 +281,10 @@ impl<R: Disks> Disks for LiveRack<R> {
     fn disks(&self) -> Option<u8> {
         self.rack.disks()
     }
+
+    ghost handled = { λ a b s j h. live_handled _ R.handled a b s j h };
+
+    ghost single = { λ it x some. live_single R.disks R.stands R.single it x some };
+
+    ghost lost = { λ it x. live_lost R.disks R.stands R.lost it x };
 }

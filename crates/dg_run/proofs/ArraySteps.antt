@@ -7,12 +7,12 @@ use Rattle.dg_model.specs.Marks.{marked}
 use Rattle.dg_model.specs.States.{State}
 use Rattle.dg_model.specs.Steps.{Step}
 use Rattle.dg_model.specs.declared.events.Event.{Event}
-use Rattle.dg_model.specs.declared.events.Event.TheVariants.{DropDisk, MendDisk, Pending, Save}
+use Rattle.dg_model.specs.declared.events.Event.TheVariants.{Pending, Save}
 use Rattle.dg_model.specs.declared.replies.Reply.{Reply}
-use Rattle.dg_model.specs.declared.replies.Reply.TheVariants.{Blocks, NotParity}
+use Rattle.dg_model.specs.declared.replies.Reply.TheVariants.{Blocks}
 use Rattle.dg_model.specs.declared.shapes.Shape.{Shape}
 use Rattle.dg_run.proofs.Runs.{goes_none}
-use Rattle.dg_run.specs.Plain.{IsOfPairs}
+use Rattle.dg_run.specs.Plain.{IsOfRoom}
 use Rattle.dg_run.specs.Steps.{GoesSaved, IsSound, Known, StandsIn, StepsTo, VolumeStepsTo, rack_of}
 use Rattle.dg_run.specs.declared.arrays.Array.{Array}
 use Rattle.dg_store.specs.Leaves.{IsCallOrExtendBelow}
@@ -84,22 +84,12 @@ module _ {R : Type 0} (rack : Ghosts R) where
       let one = steps origin state st in
       (one.0, one.1.volume, one.2)
 
-  -- there is no disk to take out or to mend, and nothing is done
-  pub disk_steps : (a : Array R) (event : Event) → ((s : ℕ) × (j : ℕ) × (event ≡ DropDisk s j)) ⊎ ((s : ℕ) × (j : ℕ) × (event ≡ MendDisk s j)) → StepsTo rack a event NotParity a
-  disk_steps a event (inl drop) = subst (λ (e : Event). StepsTo rack a e NotParity a) (sym drop.2) (λ origin state st. (state, st, refl))
-  disk_steps a event (inr mend) = subst (λ (e : Event). StepsTo rack a e NotParity a) (sym mend.2) (λ origin state st. (state, st, refl))
-
-  pub disk_pairs : (a : Array R) (event : Event) → ((s : ℕ) × (j : ℕ) × (event ≡ DropDisk s j)) ⊎ ((s : ℕ) × (j : ℕ) × (event ≡ MendDisk s j)) → (room : Option ℕ)
-      → IsOfPairs a event NotParity room
-  disk_pairs a event (inl drop) room = subst (λ (e : Event). IsOfPairs a e NotParity room) (sym drop.2) refl
-  disk_pairs a event (inr mend) room = subst (λ (e : Event). IsOfPairs a e NotParity room) (sym mend.2) refl
-
   -- the reply to a save, with which the rack may make a checkpoint
   pub kept_pairs : (room : R → Option ℕ) (a : Array R) (answer : CheckpointAnswer) → (answer ≡ RefusesSave → CannotSave room a.volume) → (CannotSave room a.volume → answer ≡ RefusesSave)
-      → IsOfPairs a Save (checkpoint_reply answer) (room (rack_of a))
+      → IsOfRoom a Save (checkpoint_reply answer) (room (rack_of a))
   kept_pairs room a answer only must = by answer (room (rack_of a)) refl only must where
     by : (given : CheckpointAnswer) (here : Option ℕ) → room (rack_of a) ≡ here → (given ≡ RefusesSave → CannotSave room a.volume) → (CannotSave room a.volume → given ≡ RefusesSave)
-        → IsOfPairs a Save (checkpoint_reply given) here
+        → IsOfRoom a Save (checkpoint_reply given) here
     by (KeepsSave q) None is refused must = λ less. absurd (cc (must (record { plain = is; reduced = less })))
     by (KeepsSave q) (Some n) is refused must = tt
     by (LosesSave s) None is refused must = λ less. absurd (cc (must (record { plain = is; reduced = less })))

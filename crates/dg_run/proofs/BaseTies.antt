@@ -1,6 +1,8 @@
 -- How the rack that the boundaries in use stand on goes with the rack of the run behind it.
-use Rattle.std.specs.Prelude.{◌≡◌, ◌⊎◌, ◌≤◌, ◌<◌, ◌+◌, ◌++◌, ℕ, Bool, true, false, not, List, [], Option, Some, slice_index, slice_index_or, IsSome}
+use Rattle.std.specs.Prelude.{◌≡◌, ◌⊎◌, ◌≤◌, ◌<◌, ◌+◌, ◌++◌, ℕ, Bool, true, false, not, List, [], None, Option, Some, slice_index, slice_index_or, IsSome}
 use Rattle.std.proofs.Common.{◌∙◌, ap, arith, inl, inr, refl, subst, sym}
+use Rattle.dg_io.specs.DiskAnswers.{HandlesAs}
+use Rattle.dg_io.specs.Disks.{AreSameGroups}
 use Rattle.dg_io.specs.Kept.{Kept}
 use Rattle.dg_io.specs.MadeLaws.{each_such}
 use Rattle.dg_io.specs.RackCalls.{Each, IsNotOn, IsReadOrWrite, RackCall}
@@ -9,20 +11,20 @@ use Rattle.dg_io.specs.Told.{StillTold}
 use Rattle.dg_io.specs.declared.outside.Rack.{Ghosts}
 use Rattle.dg_model.specs.Causes.{Rose}
 use Rattle.dg_model.specs.States.{CountsRise}
-use Rattle.dg_regroup.specs.FrontLaws.{each_for, front_after, front_both, front_none, is_shown, was_shown}
+use Rattle.dg_regroup.specs.FrontLaws.{each_for, front_after, front_both, front_handled, front_none, is_shown, was_shown}
 use Rattle.dg_regroup.specs.FrontMade.{FrontMade, IsNoExtend}
 use Rattle.dg_regroup.specs.FrontRacks.{IsKeptShown, front_length, is_front, is_hidden, shown, rack_behind}
 use Rattle.dg_regroup.specs.Ties.{reads_extend_none}
 use Rattle.dg_regroup.specs.declared.extras.Extra.{Extra}
-use Rattle.dg_run.specs.Bases.{Base, BaseCommits, IsPlainBase, base, base_bytes, base_counts, base_known, base_room, base_stands_in, outer}
+use Rattle.dg_run.specs.Bases.{Base, BaseCommits, HasNoDisks, IsPlainBase, base, base_bytes, base_counts, base_known, base_room, base_stands_in, outer}
 use Rattle.dg_run.specs.Keeping.{IsEntryShown, IsFoundAs, IsShownBy, ShowsAll, length_said}
 use Rattle.dg_stop.specs.Anchors.{IsAnchored}
 use Rattle.dg_stop.specs.DoubleLaws.{both_of, some_seen}
 use Rattle.dg_stop.specs.DoubleOpenings.{IsOfOne}
 use Rattle.dg_stop.specs.Doubles.{LeavesAlone, known_in, stands_in}
 use Rattle.dg_stop.specs.Phases.{TellsAll, known_at}
-use Rattle.dg_stop.specs.StopLaws.{stop_after, stop_both, stop_none}
-use Rattle.dg_stop.specs.StopRacks.{StandKnown, stop_bytes, stop_counts, stop_keeps, stop_known, stop_stands, stop_words}
+use Rattle.dg_stop.specs.StopLaws.{stop_after, stop_both, stop_handled, stop_none}
+use Rattle.dg_stop.specs.StopRacks.{StandKnown, StopHandles, commits_by, handles_by, stop_bytes, stop_counts, stop_disks, stop_keeps, stop_known, stop_room, stop_stands, stop_stands_in, stop_words}
 use Rattle.dg_stop.specs.Ties.{calls_alone, calls_known, calls_name, calls_rise, calls_room, calls_stand, calls_stand_known, calls_told, commits_alone, commits_known, commits_name, commits_out, commits_own, commits_rise, commits_room, commits_tell, commits_told, name_behind, plain_bytes, plain_counts, plain_rise, reads_tied, tells_behind, told_behind}
 use Rattle.dg_stop.specs.declared.stop_racks.StopRack.{StopRack}
 use Rattle.dg_stop.specs.declared.stop_racks.StopRack.TheVariants.{Plain, Doubled}
@@ -80,6 +82,41 @@ module _ {R : Type 0} (rack : Ghosts R) where
   pub base_after : ((a b : R) (made : List RackCall) → rack.made a made b → After rack made a b)
       → (a b : Base R) (made : List RackCall) → (base rack).made a made b → After (base rack) made a b
   base_after law a b made is = front_after (stop_words rack) (stop_after rack law) a b made is
+
+  pub base_handled : ((a b : R) (s j : ℕ) → rack.handles a s j b → HandlesAs rack s j a b)
+      → (a b : Base R) (s j : ℕ) → (base rack).handles a s j b → HandlesAs (base rack) s j a b
+  base_handled handled a b s j is = front_handled (stop_words rack) (stop_handled rack handled) a b s j is
+
+  -- ---- disks
+
+  -- over a rack that has none there are none
+  pub base_no_disks : HasNoDisks rack → (it : Base R) → ((base rack).disks it).width ≡ None
+  base_no_disks lacks it = by it.rack where
+    by : (s : StopRack R) → (stop_disks rack s).width ≡ None
+    by (Plain s) = lacks s
+    by (Doubled s) = refl
+
+  -- a call on a disk is one on a disk of the rack of the run, which keeps no checkpoint
+  pub record CallsBehind (a : StopRack R) (s j : ℕ) (b : StopRack R) : Type 0 where
+    pub handles : rack.handles (behind a) s j (behind b)
+    pub room : stop_room b ≡ stop_room a
+    pub idle : (q : ℕ) → stop_stands_in b q ≡ false
+
+  pub calls_behind : (a b : StopRack R) (s j : ℕ) → StopHandles rack a s j b → CallsBehind a s j b
+  calls_behind a b s j is = by a b is.by where
+    by : (x y : StopRack R) → handles_by rack x s j y → CallsBehind x s j y
+    by (Plain x) (Plain y) h = record { handles = h; room = refl; idle = λ q. refl }
+    by (Plain x) (Doubled y) h = absurd h
+    by (Doubled x) y h = absurd h
+
+  -- a commit leaves the groups
+  pub kept_groups : (a b : Base R) → BaseCommits rack a b → AreSameGroups ((base rack).disks a) ((base rack).disks b)
+  kept_groups a b is = by a.rack b.rack is.below.by where
+    by : (x y : StopRack R) → commits_by rack x y → AreSameGroups (stop_disks rack x) (stop_disks rack y)
+    by (Plain x) (Plain y) h = record { width = ap (λ (r : R). (rack.disks r).width) h; count = ap (λ (r : R). (rack.disks r).groups) h }
+    by (Plain x) (Doubled y) h = absurd h
+    by (Doubled x) (Plain y) h = absurd h
+    by (Doubled x) (Doubled y) h = record { width = refl; count = refl }
 
   -- ---- calls
 

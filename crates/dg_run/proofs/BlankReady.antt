@@ -14,18 +14,19 @@ use Rattle.dg_model.specs.States.{State}
 use Rattle.dg_model.specs.declared.shapes.Shape.{Shape}
 use Rattle.dg_regroup.specs.LiveRacks.{HasNoneAbsent, is_there, live_in, rack_in}
 use Rattle.dg_regroup.specs.declared.live_racks.LiveRack.{LiveRack}
-use Rattle.dg_run.proofs.BaseTies.{base_after, base_both, base_none}
+use Rattle.dg_regroup.specs.LiveDisks.{none_says}
+use Rattle.dg_run.proofs.BaseTies.{base_after, base_both, base_no_disks, base_none}
 use Rattle.dg_run.proofs.Checkpoints.{nothing_at}
 use Rattle.dg_run.proofs.Continuing.{begins_on}
 use Rattle.dg_run.proofs.Happening.{counts_in}
 use Rattle.dg_run.proofs.Segments.{Begins, Segment, of_replacements, segment, there_by}
-use Rattle.dg_run.specs.Bases.{Base, base, base_counts}
-use Rattle.dg_run.specs.Histories.{IsBlankReady, IsReady, Running, boundaries_of, live_of, running}
+use Rattle.dg_run.specs.Bases.{Base, HasNoDisks, base, base_counts}
+use Rattle.dg_run.specs.Histories.{IsBlankReady, IsReady, Running, below_of, boundaries_of, live_of, running}
 use Rattle.dg_run.specs.Steps.{IsBlankArray, rack_of}
 use Rattle.dg_store.specs.Leaves.{IsCallOrBlankBelow}
 
 module _ {R : Type 0} (rack : Ghosts R) (none : (s : R) → rack.made s [] s) (both : (a b c : R) (x y : List RackCall) → rack.made a x b → rack.made b y c → rack.made a (x ++ y) c)
-    (law : (a b : R) (made : List RackCall) → rack.made a made b → After rack made a b) where
+    (law : (a b : R) (made : List RackCall) → rack.made a made b → After rack made a b) (lacks : HasNoDisks rack) where
   module _ (shape : Shape) (start : LiveRack (Base R)) (array : Running R) (well : IsShape shape) (all : live_in start ≡ all_live 16)
       (absent : HasNoneAbsent start) (blank : IsBlankArray (running rack) shape start array) where
     few : shape.b ≤ 16
@@ -62,6 +63,7 @@ module _ {R : Type 0} (rack : Ghosts R) (none : (s : R) → rack.made s [] s) (b
           sound = blank.sound;
           longer = on.longer;
           places = on.places;
+          groups = none_says (λ n. boundaries_of array ≤ ((base rack).disks (below_of array)).groups) ((base rack).disks (below_of array)).width (base_no_disks rack lacks (below_of array));
         }
 
     counts_at : (q : ℕ) → q / 2 < shape.b → ((running rack).counts start).faults q ≡ (base_counts rack (rack_in start)).faults (member_at (all_live shape.b) q)

@@ -25,7 +25,7 @@ use Rattle.dg_model.specs.Seals.{LastLabel}
 use Rattle.dg_model.specs.States.{State, place_of}
 use Rattle.dg_model.specs.Steps.{IsLostIn, Step}
 use Rattle.dg_model.specs.declared.events.Event.{Event}
-use Rattle.dg_model.specs.declared.events.Event.TheVariants.{Replace, Save}
+use Rattle.dg_model.specs.declared.events.Event.TheVariants.{DropDisk, MendDisk, Replace, Save}
 use Rattle.dg_model.specs.declared.members.MemberState.{MemberState}
 use Rattle.dg_model.specs.declared.members.MemberState.TheVariants.{Filling, Good, Out}
 use Rattle.dg_model.specs.declared.replies.Reply.{Reply}
@@ -46,7 +46,7 @@ use Rattle.dg_run.specs.Histories.{IsReady, KnownBy, Running, TellsLine, below_o
 use Rattle.dg_run.specs.Keeping.{IsCheckpoint, IsOwn, extra_in, is_serving, member_in}
 use Rattle.dg_run.specs.Keeping.Mark.{there}
 use Rattle.dg_run.specs.Plain.{is_plain}
-use Rattle.dg_run.specs.Steps.{GoesReplaced, GoesSaved, ReplacedBy, SavedBy, StandsIn, rack_of}
+use Rattle.dg_run.specs.Steps.{DroppedBy, GoesHandled, GoesReplaced, GoesSaved, MendedBy, ReplacedBy, SavedBy, StandsIn, rack_of}
 use Rattle.dg_stop.specs.DoubleLaws.{both_of}
 use Rattle.dg_store.specs.Leaves.{IsCallBelow, IsCallOrBlankBelow, IsCallOrExtendBelow}
 use Rattle.dg_volume.specs.Commits.{AreFailed, CommitsArray, KeepsBy, KeepsSaved, checkpoint_reply, extra_of}
@@ -128,7 +128,7 @@ pub number_in : (numbers : List ℕ) (p : ℕ) → place_in numbers (p / 2) < le
 number_in numbers p low = let at = number_of numbers (p / 2) (p % 2) (omega arith) low in omega (arith, at)
 
 -- a boundary both of whose members are out is lost
-lost_out : (members : ℕ → MemberState) (s : ℕ) → members (2 * s) ≡ Out → members (2 * s + 1) ≡ Out → is_lost members s ≡ true
+pub lost_out : (members : ℕ → MemberState) (s : ℕ) → members (2 * s) ≡ Out → members (2 * s + 1) ≡ Out → is_lost members s ≡ true
 lost_out members s first second =
     subst (λ (m : MemberState). (not (is_good m) && not (is_good (members (2 * s + 1)))) ≡ true) (sym first)
     (subst (λ (m : MemberState). (true && not (is_good m)) ≡ true) (sym second) refl)
@@ -194,16 +194,21 @@ kept_other keep fell old new marks failed q other = elim (cases_Bool (is_marked 
   ]
 ]
 
--- What a call leaves that answered an event so: where a save or a replacement was done, what it says of what the rack keeps.
+-- What a call leaves that answered an event so: where a save or a replacement was done, what it says of what the rack keeps; and where a disk may have
+-- been called, what it says of that.
 abbrev pub GoesKeeping : {R : Type 0} → Ghosts R → Event → Reply → Running R → Running R → Type 0
 GoesKeeping rack Save reply a b = IsReady rack a × SavedBy (running rack) (live_room base_room) (LiveCommits (BaseCommits rack)) reply a b
 GoesKeeping rack (Replace s j) reply a b = IsReady rack a × GoesReplaced (running rack) a b × ReplacedBy (running rack) s j reply a b
+GoesKeeping rack (DropDisk s j) reply a b = IsReady rack a × GoesHandled (running rack) s j a b × DroppedBy (running rack) s j reply a b
+GoesKeeping rack (MendDisk s j) reply a b = IsReady rack a × GoesHandled (running rack) s j a b × MendedBy (running rack) s j reply a b
 GoesKeeping rack event reply a b = Unit {0}
 
 -- an event that is answered by one reply, and makes no member anew nor extends one, is neither
 pub plain_keeping : {R : Type 0} (rack : Ghosts R) (event : Event) (reply : Reply) (a b : Running R) → is_plain event ≡ true → GoesKeeping rack event reply a b
 plain_keeping rack Save reply a b is = absurd (false≢true is)
 plain_keeping rack (Replace s j) reply a b is = absurd (false≢true is)
+plain_keeping rack (DropDisk s j) reply a b is = absurd (false≢true is)
+plain_keeping rack (MendDisk s j) reply a b is = absurd (false≢true is)
 plain_keeping rack event reply a b is = tt
 
 module _ {R : Type 0} (rack : Ghosts R) (none : (s : R) → rack.made s [] s) (both : (a b c : R) (x y : List RackCall) → rack.made a x b → rack.made b y c → rack.made a (x ++ y) c)

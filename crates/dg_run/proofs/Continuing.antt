@@ -1,11 +1,12 @@
 -- What events leave of an array of the boundaries in use.
 use Rattle.std.proofs.Common.{◌≡◌, ◌∙◌, ◌+◌, ◌-◌, ◌/◌, ◌<◌, ◌≤◌, ℕ, suc, zero, Bool, true, false, List, [], ◌∷◌, ◌++◌, ap, arith, inl, inr, length, slice_index, refl, subst, sym, length-append}
-use Rattle.std.specs.Prelude.{◌==◌, All, IsSome, filter, if◌then◌else◌, map}
+use Rattle.std.specs.Prelude.{◌==◌, All, IfSome, IsSome, None, Option, Some, filter, if◌then◌else◌, map}
 use Rattle.std.specs.Int.{bit_at}
 use Rattle.std.specs.List.{range_with_len}
 use Rattle.std.proofs.lemmas.Bool.{cases_Bool}
 use Rattle.std.proofs.lemmas.List.{get_or-map, length-map}
 use Rattle.std.proofs.lemmas.List.Elements.{All-cons, All-get_or, All-nil, filter-append}
+use Rattle.dg_io.specs.Disks.{AreSameGroups, DiskStates}
 use Rattle.dg_io.specs.Makes.{Makes}
 use Rattle.dg_io.specs.MakesLaws.{makes_both, makes_made, makes_none}
 use Rattle.dg_io.specs.RackCalls.{RackCall}
@@ -98,6 +99,13 @@ begins_left numbers left lost b x y begins size bits drops =
           ∙ sym (get_or-map (boundary_at numbers) left i 0 0 within);
     }
 
+-- the groups of a rack are as many as they were, and the first line has as many boundaries
+pub groups_on : (was now : DiskStates) (m n : ℕ) → AreSameGroups was now → n ≡ m → IfSome was.width (λ w. m ≤ was.groups) → IfSome now.width (λ w. n ≤ now.groups)
+groups_on was now m n same is h = subst (λ (width : Option ℕ). IfSome width (λ w. n ≤ now.groups)) (sym same.width) (by was.width h) where
+  by : (width : Option ℕ) → IfSome width (λ w. m ≤ was.groups) → IfSome width (λ w. n ≤ now.groups)
+  by None few = tt
+  by (Some w) few = omega (arith, few, same.count, is)
+
 -- What calls of this kind leave of an array: one of the same first line, ready for the next event. On the rack below such calls were made, on members of
 -- that line's boundaries alone; and what that tells it told before.
 pub record ContinuesBy {R : Type 0} (rack : Ghosts R) (may : ℕ → RackCall → Type 0) (old new : Array (LiveRack R)) : Type 0 where
@@ -122,6 +130,9 @@ module _ {R : Type 0} (rack : Ghosts R) (none : (s : R) → rack.made s [] s) (b
 
   pub same_name : (may : RackCall → Type 0) (x y : R) → Makes rack may x y → rack.name y ≡ rack.name x
   same_name may x y made = let whole = makes_made rack may none both x y made in (law x y whole.calls whole.made).same_rack
+
+  same_groups : (may : RackCall → Type 0) (x y : R) → Makes rack may x y → AreSameGroups (rack.disks x) (rack.disks y)
+  same_groups may x y made = let whole = makes_made rack may none both x y made in (law x y whole.calls whole.made).disks_after.rises.same
 
   -- ---- an array goes on
 
@@ -149,6 +160,8 @@ module _ {R : Type 0} (rack : Ghosts R) (none : (s : R) → rack.made s [] s) (b
           sound = leaves.well;
           longer = begins.longer;
           places = begins.places;
+          groups = groups_on (rack.disks (below_of a)) (rack.disks (below_of b)) (boundaries_of a) (boundaries_of b)
+              (same_groups (may (boundaries_of a)) (below_of a) (below_of b) s.made) leaves.boundaries ready.groups;
         };
         line = leaves.line;
         boundaries = leaves.boundaries;
@@ -278,18 +291,22 @@ module _ {R : Type 0} (rack : Ghosts R) (none : (s : R) → rack.made s [] s) (b
       let left = stores.rack_of out.left in
       let p = parts_of a b ready goes out is in
       let begins = begins_on (live_of b) (live_of b) left (rack_of b) p.second.live_is refl p.begins in
+      let made : Makes rack (IsCallBelow (boundaries_of a)) (below_of a) (below_of b) =
+      makes_both rack (IsCallBelow (boundaries_of a)) (below_of a) (rack_in mid) (below_of b) p.first.made
+      (subst (λ (r : R). Makes rack (IsCallBelow (boundaries_of a)) r (below_of b)) p.same p.second.made) in
       record {
         ready = record {
           sound = goes.well;
           longer = begins.longer;
           places = begins.places;
+          groups = groups_on (rack.disks (below_of a)) (rack.disks (below_of b)) (boundaries_of a) (boundaries_of b)
+              (same_groups (IsCallBelow (boundaries_of a)) (below_of a) (below_of b) made) goes.boundaries ready.groups;
         };
         line = goes.line;
         boundaries = goes.boundaries;
         whole = λ whole. inr (fewer_out a b ready goes out is);
         own = record { calls = p.second.calls ∙ p.own ∙ p.first.calls; writes = p.second.writes ∙ p.own_writes_are ∙ p.first.writes };
-        made = makes_both rack (IsCallBelow (boundaries_of a)) (below_of a) (rack_in mid) (below_of b) p.first.made
-            (subst (λ (r : R). Makes rack (IsCallBelow (boundaries_of a)) r (below_of b)) p.same p.second.made);
+        made = made;
         tells = λ q told. p.first.tells q (subst (λ (r : R). IsSome (rack.bytes r q)) p.same (p.second.tells q told));
         took = took_out a b ready goes out is;
       }

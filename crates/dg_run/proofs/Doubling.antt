@@ -29,10 +29,11 @@ use Rattle.dg_model.specs.declared.replies.Reply.TheVariants.{Done, Range, Degra
 use Rattle.dg_model.specs.declared.shapes.Shape.{Shape}
 use Rattle.dg_run.proofs.BaseTies.{base_both, base_none, base_tied}
 use Rattle.dg_run.proofs.Checkpoints.{number_in}
-use Rattle.dg_run.proofs.Laters.{later_went}
+use Rattle.dg_run.proofs.Handling.{no_disk}
+use Rattle.dg_run.proofs.Happening.{later_led}
 use Rattle.dg_run.proofs.TakenOut.{place_low}
-use Rattle.dg_run.specs.Bases.{Base, base, base_counts, base_room, outer}
-use Rattle.dg_run.specs.Courses.{AnswersBy, AreFaultsOf, AreInUse, Course, Leading, Standing, Went}
+use Rattle.dg_run.specs.Bases.{Base, HasNoDisks, base, base_counts, base_room, outer}
+use Rattle.dg_run.specs.Courses.{AnswersBy, AreFaultsOf, AreInUse, Course, HasNoDisk, Leading, Standing, Went}
 use Rattle.dg_run.specs.Histories.{on_double}
 use Rattle.dg_run.specs.Replays.{TellsBoundaries}
 use Rattle.dg_store.specs.Leaves.{IsCallBelow}
@@ -184,52 +185,53 @@ faults_of state beneath p tied low =
 
 -- ---- what an array answers whose rack keeps a checkpoint
 
-pub allowed_double : (old new : Moment) (event : Event) (reply : Reply) (room : ℕ) → AnswersBy old.state event reply (Some room) → IsAllowed double old event reply new
-allowed_double old new (Array s) NotParity room h = tt
-allowed_double old new (Array s) reply room h = tt
-allowed_double old new (Safe s) NotParity room h = tt
-allowed_double old new (Safe s) reply room h = tt
-allowed_double old new (Parity s n) NotParity room h = tt
-allowed_double old new (Parity s n) reply room h = tt
-allowed_double old new (Write b x) NotParity room h = tt
-allowed_double old new (Write b x) reply room h = tt
-allowed_double old new (Read b) NotParity room h = tt
-allowed_double old new (Read b) reply room h = tt
-allowed_double old new (Fail s j) NotParity room h = tt
-allowed_double old new (Fail s j) reply room h = tt
-allowed_double old new (Replace s j) NotParity room h = tt
-allowed_double old new (Replace s j) reply room h = tt
-allowed_double old new (Rebuild s n) NotParity room h = tt
-allowed_double old new (Rebuild s n) reply room h = tt
-allowed_double old new Settle NotParity room h = tt
-allowed_double old new Settle reply room h = tt
-allowed_double old new (Tend n) NotParity room h = tt
-allowed_double old new (Tend n) reply room h = tt
-allowed_double old new Diffuse NotParity room h = tt
-allowed_double old new Diffuse reply room h = tt
-allowed_double old new (Who b) NotParity room h = tt
-allowed_double old new (Who b) reply room h = tt
-allowed_double old new Pending NotParity room h = tt
-allowed_double old new Pending reply room h = tt
-allowed_double old new (Cat p) NotParity room h = tt
-allowed_double old new (Cat p) reply room h = tt
-allowed_double old new (Ls p) NotParity room h = tt
-allowed_double old new (Ls p) reply room h = tt
-allowed_double old new Tree NotParity room h = tt
-allowed_double old new Tree reply room h = tt
-allowed_double old new (Home p) NotParity room h = tt
-allowed_double old new (Home p) reply room h = tt
-allowed_double old new Regroup NotParity room h = tt
-allowed_double old new Regroup reply room h = tt
-allowed_double old new LostFiles NotParity room h = tt
-allowed_double old new LostFiles reply room h = tt
-allowed_double old new Audit NotParity room h = tt
-allowed_double old new Audit reply room h = tt
-allowed_double old new Save NotSaved room h = h
-allowed_double old new Save NotParity room h = tt
-allowed_double old new Save reply room h = tt
-allowed_double old new (DropDisk s j) reply room h = subst (λ (r : Reply). IsAllowed double old (DropDisk s j) r new) (sym h) tt
-allowed_double old new (MendDisk s j) reply room h = subst (λ (r : Reply). IsAllowed double old (MendDisk s j) r new) (sym h) tt
+pub allowed_double : {R : Type 0} (was now : Standing (Base R)) (old new : Moment) (event : Event) (reply : Reply) (room : ℕ) → AnswersBy old.state event reply (Some room)
+    → HasNoDisk was event reply now → IsAllowed double old event reply new
+allowed_double was now old new (Array s) NotParity room h d = tt
+allowed_double was now old new (Array s) reply room h d = tt
+allowed_double was now old new (Safe s) NotParity room h d = tt
+allowed_double was now old new (Safe s) reply room h d = tt
+allowed_double was now old new (Parity s n) NotParity room h d = tt
+allowed_double was now old new (Parity s n) reply room h d = tt
+allowed_double was now old new (Write b x) NotParity room h d = tt
+allowed_double was now old new (Write b x) reply room h d = tt
+allowed_double was now old new (Read b) NotParity room h d = tt
+allowed_double was now old new (Read b) reply room h d = tt
+allowed_double was now old new (Fail s j) NotParity room h d = tt
+allowed_double was now old new (Fail s j) reply room h d = tt
+allowed_double was now old new (Replace s j) NotParity room h d = tt
+allowed_double was now old new (Replace s j) reply room h d = tt
+allowed_double was now old new (Rebuild s n) NotParity room h d = tt
+allowed_double was now old new (Rebuild s n) reply room h d = tt
+allowed_double was now old new Settle NotParity room h d = tt
+allowed_double was now old new Settle reply room h d = tt
+allowed_double was now old new (Tend n) NotParity room h d = tt
+allowed_double was now old new (Tend n) reply room h d = tt
+allowed_double was now old new Diffuse NotParity room h d = tt
+allowed_double was now old new Diffuse reply room h d = tt
+allowed_double was now old new (Who b) NotParity room h d = tt
+allowed_double was now old new (Who b) reply room h d = tt
+allowed_double was now old new Pending NotParity room h d = tt
+allowed_double was now old new Pending reply room h d = tt
+allowed_double was now old new (Cat p) NotParity room h d = tt
+allowed_double was now old new (Cat p) reply room h d = tt
+allowed_double was now old new (Ls p) NotParity room h d = tt
+allowed_double was now old new (Ls p) reply room h d = tt
+allowed_double was now old new Tree NotParity room h d = tt
+allowed_double was now old new Tree reply room h d = tt
+allowed_double was now old new (Home p) NotParity room h d = tt
+allowed_double was now old new (Home p) reply room h d = tt
+allowed_double was now old new Regroup NotParity room h d = tt
+allowed_double was now old new Regroup reply room h d = tt
+allowed_double was now old new LostFiles NotParity room h d = tt
+allowed_double was now old new LostFiles reply room h d = tt
+allowed_double was now old new Audit NotParity room h d = tt
+allowed_double was now old new Audit reply room h d = tt
+allowed_double was now old new Save NotSaved room h d = h
+allowed_double was now old new Save NotParity room h d = tt
+allowed_double was now old new Save reply room h d = tt
+allowed_double was now old new (DropDisk s j) reply room h d = subst (λ (r : Reply). IsAllowed double old (DropDisk s j) r new) (sym d.0) tt
+allowed_double was now old new (MendDisk s j) reply room h d = subst (λ (r : Reply). IsAllowed double old (MendDisk s j) r new) (sym d.0) tt
 
 -- ---- the history of a double array
 
@@ -239,6 +241,12 @@ reads_or_writes bound (blanks q) low = absurd low
 reads_or_writes bound (calls q) low = tt
 reads_or_writes bound (extends q) low = absurd low
 
+-- it is an event on a disk
+abbrev IsOnDisk : Event → Type 0
+IsOnDisk (DropDisk s j) = Unit {0}
+IsOnDisk (MendDisk s j) = Unit {0}
+IsOnDisk event = ⊥
+
 -- The count of a member that the rack of the run tells rose only where that of that rack did.
 abbrev RisesWithOuter : {R : Type 0} → Ghosts R → Base R → Base R → Type 0
 RisesWithOuter rack old new = (q : ℕ) → rack.tells (outer new) q → (base_counts rack old).faults q < (base_counts rack new).faults q
@@ -247,42 +255,51 @@ RisesWithOuter rack old new = (q : ℕ) → rack.tells (outer new) q → (base_c
 module _ {R : Type 0} (rack : Ghosts R) (none : (s : R) → rack.made s [] s) (both : (a b c : R) (x y : List RackCall) → rack.made a x b → rack.made b y c → rack.made a (x ++ y) c)
     (law : (a b : R) (made : List RackCall) → rack.made a made b → After rack made a b) where
   -- of an event that makes no member anew nor extends one the counts go with those of the rack of the run
-  went_tied : (event : Event) (bound : ℕ) (x y : Base R) → Went rack event bound x y → RisesWithOuter rack x y ⊎ MayBeTooLong event
-  went_tied event bound x y went = by event went where
+  went_tied : (event : Event) (bound : ℕ) (x y : Base R) → Went rack event bound x y → (IsOnDisk event → y ≡ x) → RisesWithOuter rack x y ⊎ MayBeTooLong event
+  went_tied event bound x y went idle = by event went idle where
+    same : y ≡ x → RisesWithOuter rack x y
+    same is q tells rose = absurd (let count = ap (λ (s : Base R). (base_counts rack s).faults q) is in omega (arith, rose, count))
+
     read : Makes (base rack) (IsCallBelow bound) x y → RisesWithOuter rack x y
     read made = base_tied rack law x y (makes_made (base rack) IsReadOrWrite (base_none rack none) (base_both rack both) x y
         (makes_such (base rack) (IsCallBelow bound) IsReadOrWrite (reads_or_writes bound) x y made))
 
-    by : (e : Event) → Went rack e bound x y → RisesWithOuter rack x y ⊎ MayBeTooLong e
-    by (Array s) w = inl (read w)
-    by (Safe s) w = inr tt
-    by (Parity s n) w = inl (read w)
-    by (Write b bytes) w = inl (read w)
-    by (Read b) w = inl (read w)
-    by (Fail s j) w = inl (read w)
-    by (Replace s j) w = inr tt
-    by (Rebuild s n) w = inl (read w)
-    by Settle w = inl (read w)
-    by (Tend n) w = inl (read w)
-    by Diffuse w = inl (read w)
-    by (Who b) w = inl (read w)
-    by Pending w = inl (read w)
-    by (Cat p) w = inl (read w)
-    by (Ls p) w = inl (read w)
-    by Tree w = inl (read w)
-    by (Home p) w = inl (read w)
-    by Save w = inr tt
-    by Regroup w = inl (read w)
-    by LostFiles w = inl (read w)
-    by Audit w = inl (read w)
-    by (DropDisk s j) w = inl (read w)
-    by (MendDisk s j) w = inl (read w)
+    by : (e : Event) → Went rack e bound x y → (IsOnDisk e → y ≡ x) → RisesWithOuter rack x y ⊎ MayBeTooLong e
+    by (Array s) w idle = inl (read w)
+    by (Safe s) w idle = inr tt
+    by (Parity s n) w idle = inl (read w)
+    by (Write b bytes) w idle = inl (read w)
+    by (Read b) w idle = inl (read w)
+    by (Fail s j) w idle = inl (read w)
+    by (Replace s j) w idle = inr tt
+    by (Rebuild s n) w idle = inl (read w)
+    by Settle w idle = inl (read w)
+    by (Tend n) w idle = inl (read w)
+    by Diffuse w idle = inl (read w)
+    by (Who b) w idle = inl (read w)
+    by Pending w idle = inl (read w)
+    by (Cat p) w idle = inl (read w)
+    by (Ls p) w idle = inl (read w)
+    by Tree w idle = inl (read w)
+    by (Home p) w idle = inl (read w)
+    by Save w idle = inr tt
+    by Regroup w idle = inl (read w)
+    by LostFiles w idle = inl (read w)
+    by Audit w idle = inl (read w)
+    by (DropDisk s j) w idle = inl (same (idle tt))
+    by (MendDisk s j) w idle = inl (same (idle tt))
 
-  module _ (K : Type 0) where
+  module _ (lacks : HasNoDisks rack) (K : Type 0) where
+    -- which does nothing where there are no disks
+    idle_disk : (old new : Standing (Base R)) (event : Event) (reply : Reply) → HasNoDisk old event reply new → IsOnDisk event → new.rack ≡ old.rack
+    idle_disk old new (DropDisk s j) reply d on = ap (λ (s : Standing (Base R)). s.rack) d.1
+    idle_disk old new (MendDisk s j) reply d on = ap (λ (s : Standing (Base R)). s.rack) d.1
+    idle_disk old new event reply d on = absurd on
+
     rises_with : (old new : Standing (Base R)) (event : Event) (reply : Reply) → AreInUse old.state → AreFaultsOf rack old
         → TellsBoundaries (rack.tells (outer new.rack)) new.state → Leading rack K old event reply new → RisesWith event (on_double rack old) (on_double rack new)
     rises_with old new event reply in_use tied told h p now rose =
-        elim (went_tied event new.state.boundaries old.rack new.rack h.went) [
+        elim (went_tied event new.state.boundaries old.rack new.rack h.went (idle_disk old new event reply (no_disk rack lacks old event reply new h.disks))) [
           | inl goes ↦ inl (goes p (told p (number_low new.state (p / 2) h.in_use now)) (
               let was = (step_in_use K old.state event reply new.state in_use h.step).was (p / 2) now in
               omega (arith, rose, faults_of old.state (base_counts rack old.rack) p tied was, faults_of new.state (base_counts rack new.rack) p h.tied now)
@@ -295,8 +312,9 @@ module _ {R : Type 0} (rack : Ghosts R) (none : (s : R) → rack.made s [] s) (b
         → Leading rack K old event reply new → Happens K double (on_double rack old) event reply (on_double rack new)
     happens_double room old new event reply has in_use tied told h = record {
       step = h.step;
-      allowed = allowed_double (on_double rack old) (on_double rack new) event reply room (subst (λ (o : Option ℕ). AnswersBy old.state event reply o) has h.answers);
-      rise = (later_went rack none both law event new.state.boundaries old.rack new.rack h.went).rise;
+      allowed = allowed_double old new (on_double rack old) (on_double rack new) event reply room (subst (λ (o : Option ℕ). AnswersBy old.state event reply o) has h.answers)
+          (no_disk rack lacks old event reply new h.disks);
+      rise = (later_led rack none both law lacks old new event reply h).rise;
       tied = λ k. rises_with old new event reply in_use tied (told k) h;
       took = λ is. absurd (cc is);
     }
@@ -308,7 +326,7 @@ module _ {R : Type 0} (rack : Ghosts R) (none : (s : R) → rack.made s [] s) (b
     course_told old [] (reply ∷ replies) new h q told = absurd h
     course_told old (event ∷ events) [] new h q told = absurd h
     course_told old (event ∷ events) (reply ∷ replies) new h q told =
-        (later_went rack none both law event h.0.state.boundaries old.rack h.0.rack h.1.went).told_before q (course_told h.0 events replies new h.2 q told)
+        (later_led rack none both law lacks old h.0 event reply h.1).told_before q (course_told h.0 events replies new h.2 q told)
 
     -- the first line has as many boundaries as before
     pub course_line : (old : Standing (Base R)) (events : List Event) (replies : List Reply) (new : Standing (Base R)) → AreInUse old.state → Course rack K old events replies new
@@ -332,7 +350,7 @@ module _ {R : Type 0} (rack : Ghosts R) (none : (s : R) → rack.made s [] s) (b
     history_double room old [] (reply ∷ replies) new has in_use tied told h = absurd h
     history_double room old (event ∷ events) [] new has in_use tied told h = absurd h
     history_double room old (event ∷ events) (reply ∷ replies) new has in_use tied told h =
-        let later = later_went rack none both law event h.0.state.boundaries old.rack h.0.rack h.1.went in (
+        let later = later_led rack none both law lacks old h.0 event reply h.1 in (
           on_double rack h.0,
           happens_double room old h.0 event reply has in_use tied (λ k. course_tells h.0 events replies new h.1.in_use h.2 (told k)) h.1,
           history_double room h.0 events replies new (later.room ∙ has) h.1.in_use h.1.tied told h.2,

@@ -1,6 +1,8 @@
 -- Events on an array of the boundaries in use lead from one state and rack to the next.
-use Rattle.std.proofs.Common.{◌≡◌, ◌⊎◌, ◌∙◌, ◌+◌, ◌*◌, ◌/◌, ◌%◌, ◌<◌, ℕ, true, List, [], ◌∷◌, ◌++◌, ap, arith, inl, inr, length, slice_index, refl, subst, sym}
+use Rattle.std.proofs.Common.{◌≡◌, ◌≢◌, ◌⊎◌, ◌∙◌, ◌+◌, ◌*◌, ◌/◌, ◌%◌, ◌<◌, ℕ, true, List, [], ◌∷◌, ◌++◌, ap, arith, inl, inr, length, slice_index, refl, subst, sym}
 use Rattle.std.specs.Prelude.{Option, None, Some, Result, Ok, Err, OnOk}
+use Rattle.dg_io.specs.Makes.{Makes}
+use Rattle.dg_io.specs.MakesLaws.{makes_none, makes_such}
 use Rattle.dg_io.specs.RackCalls.{RackCall}
 use Rattle.dg_io.specs.RackWords.{After}
 use Rattle.dg_io.specs.declared.outside.Rack.{Ghosts}
@@ -12,6 +14,7 @@ use Rattle.dg_model.specs.Moments.Kind.{plain}
 use Rattle.dg_model.specs.States.{Counts, State}
 use Rattle.dg_model.specs.Steps.{IsReduced, Step}
 use Rattle.dg_model.specs.declared.events.Event.{Event}
+use Rattle.dg_model.specs.declared.members.MemberState.TheVariants.{Out}
 use Rattle.dg_model.specs.declared.events.Event.TheVariants.{Array, Safe, Parity, Write, Read, Fail, Replace, Rebuild, Settle, Tend, Diffuse, Who, Pending, Cat, Ls, Tree, Home, Save, Regroup, LostFiles, Audit, DropDisk, MendDisk}
 use Rattle.dg_model.specs.declared.replies.Reply.{Reply}
 use Rattle.dg_model.specs.declared.replies.Reply.TheVariants.{Lost, NotParity, NotSaved, Saved}
@@ -21,15 +24,18 @@ use Rattle.dg_regroup.specs.declared.live_racks.LiveRack.{LiveRack}
 use Rattle.dg_run.proofs.BaseTies.{base_after, base_both, base_none, plain_rise_of}
 use Rattle.dg_run.proofs.Checkpoints.{GoesKeeping, keeps_over}
 use Rattle.dg_run.proofs.Continuing.{told_volume}
-use Rattle.dg_run.proofs.Laters.{GoesBy, later_went}
+use Rattle.dg_run.proofs.Handling.{disks_over, no_disk}
+use Rattle.dg_run.proofs.Laters.{GoesBy, later_both, later_committed, later_made}
 use Rattle.dg_run.proofs.Segments.{by_place, there_by}
 use Rattle.dg_run.proofs.TakenOut.{WentLost}
-use Rattle.dg_run.specs.Bases.{Base, IsPlainBase, base, base_bytes, base_counts, base_room}
-use Rattle.dg_run.specs.Courses.{AnswersBy, AreFaultsOf, AreInUse, CountsOn, Course, KeepsBegun, KeepsOver, Leading, Standing, TookLostOf, Went}
-use Rattle.dg_run.specs.Histories.{EventAnswered, EventCut, EventDone, EventListed, EventWanted, IsReady, IsWholeOn, KnownBy, Leads, OwnSame, Running, RunsTo, VolumeRunsTo, standing_of, below_of, boundaries_of, live_of, on_pairs, running}
-use Rattle.dg_run.specs.Plain.{IsOfPairs}
+use Rattle.dg_run.specs.Bases.{Base, BaseCommits, HasNoDisks, IsPlainBase, base, base_bytes, base_counts, base_room}
+use Rattle.dg_run.specs.Courses.{AnswersBy, AnswersDisks, AreFaultsOf, AreInUse, AreStanding, CountsOn, Course, HasNoDisk, KeepsBegun, KeepsOver, Leading, Standing, TookLostOf, Went}
+use Rattle.dg_run.specs.Histories.{EventAnswered, EventCut, EventDone, EventListed, EventWanted, IsReady, IsWholeOn, KnownBy, Later, Leads, OwnSame, Running, RunsTo, VolumeRunsTo, standing_of, below_of, boundaries_of, live_of, on_pairs, running}
+use Rattle.dg_run.specs.Plain.{IsOfRoom}
 use Rattle.dg_run.specs.Replays.{HoldsInUse}
 use Rattle.dg_run.specs.Steps.{Answered, AnsweredBefore, AnsweredPart, Known, ListedBefore, StandsIn, StepsTo, VolumeStepsTo, WantedFor, rack_of}
+use Rattle.dg_store.specs.Leaves.{IsAnyCallBelow, IsCallBelow, IsCallOrBlankBelow, IsCallOrExtendBelow}
+use Rattle.dg_store.specs.ReadLaws.{any_of_blank, any_of_call, any_of_extend}
 use Rattle.dg_volume.specs.HeldLaws.{holds_all}
 use Rattle.dg_volume.specs.Origins.{Origin, WasHeld}
 use Rattle.dg_volume.specs.Volumes.{any_phase}
@@ -58,7 +64,9 @@ pub leading_less : {R K J : Type 0} (rack : Ghosts R) (w : J → K) (old : Stand
 leading_less rack w old event reply new h = record {
   step = step_less w old.state event reply new.state h.step;
   answers = h.answers;
+  disks = h.disks;
   in_use = h.in_use;
+  standing = h.standing;
   tied = h.tied;
   took = h.took;
   counted = h.counted;
@@ -83,53 +91,54 @@ course_both rack K old (event ∷ events) (reply ∷ replies) mid more others ne
 
 -- ---- what an array over a plain rack answers
 
-pub allowed_of : (old new : Moment) (event : Event) (reply : Reply) → AnswersBy old.state event reply None → IsAllowed plain old event reply new
-allowed_of old new (Array s) NotParity h = tt
-allowed_of old new (Array s) reply h = tt
-allowed_of old new (Safe s) NotParity h = tt
-allowed_of old new (Safe s) reply h = tt
-allowed_of old new (Parity s n) NotParity h = tt
-allowed_of old new (Parity s n) reply h = tt
-allowed_of old new (Write b x) NotParity h = tt
-allowed_of old new (Write b x) reply h = tt
-allowed_of old new (Read b) NotParity h = tt
-allowed_of old new (Read b) reply h = tt
-allowed_of old new (Fail s j) NotParity h = tt
-allowed_of old new (Fail s j) reply h = tt
-allowed_of old new (Replace s j) NotParity h = tt
-allowed_of old new (Replace s j) reply h = tt
-allowed_of old new (Rebuild s n) NotParity h = tt
-allowed_of old new (Rebuild s n) reply h = tt
-allowed_of old new Settle NotParity h = tt
-allowed_of old new Settle reply h = tt
-allowed_of old new (Tend n) NotParity h = tt
-allowed_of old new (Tend n) reply h = tt
-allowed_of old new Diffuse NotParity h = tt
-allowed_of old new Diffuse reply h = tt
-allowed_of old new (Who b) NotParity h = tt
-allowed_of old new (Who b) reply h = tt
-allowed_of old new Pending NotParity h = tt
-allowed_of old new Pending reply h = tt
-allowed_of old new (Cat p) NotParity h = tt
-allowed_of old new (Cat p) reply h = tt
-allowed_of old new (Ls p) NotParity h = tt
-allowed_of old new (Ls p) reply h = tt
-allowed_of old new Tree NotParity h = tt
-allowed_of old new Tree reply h = tt
-allowed_of old new (Home p) NotParity h = tt
-allowed_of old new (Home p) reply h = tt
-allowed_of old new Regroup NotParity h = tt
-allowed_of old new Regroup reply h = tt
-allowed_of old new LostFiles NotParity h = tt
-allowed_of old new LostFiles reply h = tt
-allowed_of old new Audit NotParity h = tt
-allowed_of old new Audit reply h = tt
-allowed_of old new Save (Saved q) h = h
-allowed_of old new Save (Lost s) h = h
-allowed_of old new Save NotParity h = tt
-allowed_of old new Save reply h = tt
-allowed_of old new (DropDisk s j) reply h = subst (λ (r : Reply). IsAllowed plain old (DropDisk s j) r new) (sym h) tt
-allowed_of old new (MendDisk s j) reply h = subst (λ (r : Reply). IsAllowed plain old (MendDisk s j) r new) (sym h) tt
+pub allowed_of : {R : Type 0} (was now : Standing (Base R)) (old new : Moment) (event : Event) (reply : Reply) → AnswersBy old.state event reply None → HasNoDisk was event reply now
+    → IsAllowed plain old event reply new
+allowed_of was now old new (Array s) NotParity h d = tt
+allowed_of was now old new (Array s) reply h d = tt
+allowed_of was now old new (Safe s) NotParity h d = tt
+allowed_of was now old new (Safe s) reply h d = tt
+allowed_of was now old new (Parity s n) NotParity h d = tt
+allowed_of was now old new (Parity s n) reply h d = tt
+allowed_of was now old new (Write b x) NotParity h d = tt
+allowed_of was now old new (Write b x) reply h d = tt
+allowed_of was now old new (Read b) NotParity h d = tt
+allowed_of was now old new (Read b) reply h d = tt
+allowed_of was now old new (Fail s j) NotParity h d = tt
+allowed_of was now old new (Fail s j) reply h d = tt
+allowed_of was now old new (Replace s j) NotParity h d = tt
+allowed_of was now old new (Replace s j) reply h d = tt
+allowed_of was now old new (Rebuild s n) NotParity h d = tt
+allowed_of was now old new (Rebuild s n) reply h d = tt
+allowed_of was now old new Settle NotParity h d = tt
+allowed_of was now old new Settle reply h d = tt
+allowed_of was now old new (Tend n) NotParity h d = tt
+allowed_of was now old new (Tend n) reply h d = tt
+allowed_of was now old new Diffuse NotParity h d = tt
+allowed_of was now old new Diffuse reply h d = tt
+allowed_of was now old new (Who b) NotParity h d = tt
+allowed_of was now old new (Who b) reply h d = tt
+allowed_of was now old new Pending NotParity h d = tt
+allowed_of was now old new Pending reply h d = tt
+allowed_of was now old new (Cat p) NotParity h d = tt
+allowed_of was now old new (Cat p) reply h d = tt
+allowed_of was now old new (Ls p) NotParity h d = tt
+allowed_of was now old new (Ls p) reply h d = tt
+allowed_of was now old new Tree NotParity h d = tt
+allowed_of was now old new Tree reply h d = tt
+allowed_of was now old new (Home p) NotParity h d = tt
+allowed_of was now old new (Home p) reply h d = tt
+allowed_of was now old new Regroup NotParity h d = tt
+allowed_of was now old new Regroup reply h d = tt
+allowed_of was now old new LostFiles NotParity h d = tt
+allowed_of was now old new LostFiles reply h d = tt
+allowed_of was now old new Audit NotParity h d = tt
+allowed_of was now old new Audit reply h d = tt
+allowed_of was now old new Save (Saved q) h d = h
+allowed_of was now old new Save (Lost s) h d = h
+allowed_of was now old new Save NotParity h d = tt
+allowed_of was now old new Save reply h d = tt
+allowed_of was now old new (DropDisk s j) reply h d = subst (λ (r : Reply). IsAllowed plain old (DropDisk s j) r new) (sym d.0) tt
+allowed_of was now old new (MendDisk s j) reply h d = subst (λ (r : Reply). IsAllowed plain old (MendDisk s j) r new) (sym d.0) tt
 
 -- the boundaries in use of a state that an array is in
 pub in_use_in : {R P : Type 0} (rack : Ghosts R) (b : Running R) (state : State) → IsReady rack b → volumes.StandsIn any_phase (running rack) P b.volume state → AreInUse state
@@ -145,6 +154,20 @@ module _ {R : Type 0} (rack : Ghosts R) (none : (s : R) → rack.made s [] s) (b
 
   pub tied_in : {P : Type 0} (b : Running R) (state : State) → IsReady rack b → volumes.StandsIn any_phase (running rack) P b.volume state → AreFaultsOf rack (standing_of b state)
   tied_in b state ready stands = subst (λ (s : State). AreFaultsOf rack (standing_of b s)) (sym stands.is) (tied_at b ready)
+
+  -- a member of a boundary in use that isn't out stands on the rack below
+  standing_at : (b : Running R) → IsReady rack b → (q : ℕ) → q / 2 < length (live_of b) → volumes.members_of b.volume q ≢ Out
+      → (base rack).stands (below_of b) (member_at (live_of b) q) ≡ true
+  standing_at b ready q low stands =
+      let there : is_there (live_in (rack_of b)) q ≡ true = there_by (live_in (rack_of b)) q (omega (arith, low, ready.longer)) in
+      let number : member_at (live_in (rack_of b)) q ≡ member_at (live_of b) q = ap (λ (n : ℕ). 2 * n + q % 2) (ready.places (q / 2) low) in
+      subst (λ (p : ℕ). (base rack).stands (below_of b) p ≡ true) number (sym (rw there refl) ∙ ready.sound.array.stand q stands)
+
+  standing_in : {P : Type 0} (b : Running R) (state : State) → IsReady rack b → volumes.StandsIn any_phase (running rack) P b.volume state → AreStanding rack (standing_of b state)
+  standing_in b state ready stands = subst (λ (s : State). AreStanding rack (standing_of b s)) (sym stands.is) (record {
+    stand = standing_at b ready;
+    beyond = λ q past. let number = ready.sound.in_use.number in ready.sound.array.others q (omega (arith, past, number));
+  })
 
   -- so are all counts, where no call was made on a member that isn't there
   pub counts_in : {P : Type 0} (b : Running R) (state : State) → IsReady rack b → own_calls (rack_of b) ≡ 0 → own_writes (rack_of b) ≡ 0 → volumes.StandsIn any_phase (running rack) P b.volume state
@@ -172,12 +195,15 @@ module _ {R : Type 0} (rack : Ghosts R) (none : (s : R) → rack.made s [] s) (b
       (subst (λ (s : State). WentLost (base_counts rack (below_of a)).faults (base_counts rack (below_of b)).faults s.members s.live (live_of b)) (sym first.is) goes.took)
 
   pub leads_on : {P Q J : Type 0} (a b : Running R) (event : Event) (reply : Reply) (state next : State) → GoesBy rack event a b
-      → volumes.StandsIn any_phase (running rack) J a.volume state → volumes.StandsIn any_phase (running rack) Q b.volume next → AnswersBy state event reply (base_room (below_of a)) → Step P state event reply next
+      → volumes.StandsIn any_phase (running rack) J a.volume state → volumes.StandsIn any_phase (running rack) Q b.volume next → AnswersBy state event reply (base_room (below_of a))
+      → AnswersDisks rack (standing_of a state) event reply (standing_of b next) → Step P state event reply next
       → (P → KeepsOver rack P (standing_of a state) event reply (standing_of b next)) → Leading rack P (standing_of a state) event reply (standing_of b next)
-  leads_on a b event reply state next goes first stands answers step keeps = record {
+  leads_on a b event reply state next goes first stands answers disks step keeps = record {
     step = step;
     answers = answers;
+    disks = disks;
     in_use = in_use_in rack b next goes.on.ready stands;
+    standing = standing_in b next goes.on.ready stands;
     tied = tied_in b next goes.on.ready stands;
     took = took_in a b state next goes first stands;
     counted = counted_in a b state next goes.on.own (ap (λ (s : State). s.counts) first.is) (ap (λ (s : State). s.counts) stands.is);
@@ -196,36 +222,64 @@ module _ {R : Type 0} (rack : Ghosts R) (none : (s : R) → rack.made s [] s) (b
     writes = omega (arith, tied.writes, h.counted.writes);
   }
 
-  pub happens : {K : Type 0} (old new : Standing (Base R)) (event : Event) (reply : Reply) → IsPlainBase old.rack → AreCountsOf old.state.live (base_counts rack old.rack) old.state.counts
-      → Leading rack K old event reply new → Happens K plain (on_pairs rack old) event reply (on_pairs rack new)
-  happens old new event reply plain_base tied h = let later = later_went rack none both law event new.state.boundaries old.rack new.rack h.went in record {
-    step = h.step;
-    allowed = allowed_of (on_pairs rack old) (on_pairs rack new) event reply (subst (λ (room : Option ℕ). AnswersBy old.state event reply room) plain_base.room h.answers);
-    rise = plain_rise_of rack old.rack new.rack plain_base (later.plain plain_base) later.rise;
-    tied = tied_then old new event reply tied h;
-    took = λ is. h.took;
-  }
+  module _ (lacks : HasNoDisks rack) where
+    -- what an event leaves of a rack without disks: calls, and then nothing or a commit
+    pub led_by_calls : {K : Type 0} (old new : Standing (Base R)) (event : Event) (reply : Reply) → Leading rack K old event reply new
+        → (mid : Base R) × Makes (base rack) (IsAnyCallBelow new.state.boundaries) old.rack mid × ((new.rack ≡ mid) ⊎ BaseCommits rack mid new.rack)
+    led_by_calls old new event reply h = by event h.went (no_disk rack lacks old event reply new h.disks) where
+      bound : ℕ
+      bound = new.state.boundaries
 
-  pub history_of : (K : Type 0) (old : Standing (Base R)) (events : List Event) (replies : List Reply) (new : Standing (Base R)) → IsPlainBase old.rack
-      → AreCountsOf old.state.live (base_counts rack old.rack) old.state.counts → Course rack K old events replies new → History K plain (on_pairs rack old) events replies (on_pairs rack new)
-  history_of K old [] [] new plain_base tied h = ap (λ (s : Standing (Base R)). on_pairs rack s) h
-  history_of K old [] (reply ∷ replies) new plain_base tied h = absurd h
-  history_of K old (event ∷ events) [] new plain_base tied h = absurd h
-  history_of K old (event ∷ events) (reply ∷ replies) new plain_base tied h =
-      let later = later_went rack none both law event h.0.state.boundaries old.rack h.0.rack h.1.went in
-      (on_pairs rack h.0, happens old h.0 event reply plain_base tied h.1, history_of K h.0 events replies new (later.plain plain_base) (tied_then old h.0 event reply tied h.1) h.2)
+      by : (e : Event) → Went rack e new.state.boundaries old.rack new.rack → HasNoDisk old e reply new
+          → (mid : Base R) × Makes (base rack) (IsAnyCallBelow new.state.boundaries) old.rack mid × ((new.rack ≡ mid) ⊎ BaseCommits rack mid new.rack)
+      by (Replace s j) w d = (new.rack, makes_such (base rack) (IsCallOrBlankBelow bound) (IsAnyCallBelow bound) (any_of_blank bound) old.rack new.rack w, inl refl)
+      by Save w d = (w.0, makes_such (base rack) (IsCallOrExtendBelow bound) (IsAnyCallBelow bound) (any_of_extend bound) old.rack w.0 w.1, w.2)
+      by (DropDisk s j) w d = (old.rack, makes_none (base rack) (IsAnyCallBelow bound) old.rack, inl (ap (λ (s : Standing (Base R)). s.rack) d.1))
+      by (MendDisk s j) w d = (old.rack, makes_none (base rack) (IsAnyCallBelow bound) old.rack, inl (ap (λ (s : Standing (Base R)). s.rack) d.1))
+      by event w d = (new.rack, makes_such (base rack) (IsCallBelow bound) (IsAnyCallBelow bound) (any_of_call bound) old.rack new.rack w, inl refl)
+
+    pub later_led : {K : Type 0} (old new : Standing (Base R)) (event : Event) (reply : Reply) → Leading rack K old event reply new → Later rack new.state.boundaries old.rack new.rack
+    later_led old new event reply h = let parts = led_by_calls old new event reply h in by parts.0 parts.1 parts.2 where
+      bound : ℕ
+      bound = new.state.boundaries
+
+      by : (mid : Base R) → Makes (base rack) (IsAnyCallBelow new.state.boundaries) old.rack mid → (new.rack ≡ mid) ⊎ BaseCommits rack mid new.rack
+          → Later rack new.state.boundaries old.rack new.rack
+      by mid made (inl same) = subst (λ (s : Base R). Later rack bound old.rack s) (sym same) (later_made rack none both law bound old.rack mid made)
+      by mid made (inr commits) =
+          later_both rack none both law bound old.rack mid new.rack (later_made rack none both law bound old.rack mid made) (later_committed rack none both law bound mid new.rack commits)
+
+    pub happens : {K : Type 0} (old new : Standing (Base R)) (event : Event) (reply : Reply) → IsPlainBase old.rack → AreCountsOf old.state.live (base_counts rack old.rack) old.state.counts
+        → Leading rack K old event reply new → Happens K plain (on_pairs rack old) event reply (on_pairs rack new)
+    happens old new event reply plain_base tied h = let later = later_led old new event reply h in record {
+      step = h.step;
+      allowed = allowed_of old new (on_pairs rack old) (on_pairs rack new) event reply (subst (λ (room : Option ℕ). AnswersBy old.state event reply room) plain_base.room h.answers)
+          (no_disk rack lacks old event reply new h.disks);
+      rise = plain_rise_of rack old.rack new.rack plain_base (later.plain plain_base) later.rise;
+      tied = tied_then old new event reply tied h;
+      took = λ is. h.took;
+    }
+
+    pub history_of : (K : Type 0) (old : Standing (Base R)) (events : List Event) (replies : List Reply) (new : Standing (Base R)) → IsPlainBase old.rack
+        → AreCountsOf old.state.live (base_counts rack old.rack) old.state.counts → Course rack K old events replies new → History K plain (on_pairs rack old) events replies (on_pairs rack new)
+    history_of K old [] [] new plain_base tied h = ap (λ (s : Standing (Base R)). on_pairs rack s) h
+    history_of K old [] (reply ∷ replies) new plain_base tied h = absurd h
+    history_of K old (event ∷ events) [] new plain_base tied h = absurd h
+    history_of K old (event ∷ events) (reply ∷ replies) new plain_base tied h =
+        let later = later_led old h.0 event reply h.1 in
+        (on_pairs rack h.0, happens old h.0 event reply plain_base tied h.1, history_of K h.0 events replies new (later.plain plain_base) (tied_then old h.0 event reply tied h.1) h.2)
 
   -- what is known by the line is known of the volume
   known_of : {P : Type 0} (b : Running R) → IsReady rack b → KnownBy P (base rack) b → Known P (running rack) b
   known_of b ready known = (told_volume (base rack) (base_none rack none) (base_both rack both) (base_after rack law) b ready known.0, known.1)
 
-  pairs_in : {P : Type 0} (a : Running R) (state : State) (event : Event) (reply : Reply) (room : Option ℕ) → StandsIn (running rack) P a state → IsOfPairs a event reply room
+  pairs_in : {P : Type 0} (a : Running R) (state : State) (event : Event) (reply : Reply) (room : Option ℕ) → StandsIn (running rack) P a state → IsOfRoom a event reply room
       → AnswersBy state event reply room
   pairs_in a state event reply room stands = by event reply room where
     reduced : IsReduced state → length (live_of a) < boundaries_of a
     reduced less = subst (λ (s : State). length s.live < s.boundaries) stands.volume.is less
 
-    by : (e : Event) (r : Reply) (o : Option ℕ) → IsOfPairs a e r o → AnswersBy state e r o
+    by : (e : Event) (r : Reply) (o : Option ℕ) → IsOfRoom a e r o → AnswersBy state e r o
     by (Array s) r o h = tt
     by (Safe s) r o h = tt
     by (Parity s n) r o h = tt
@@ -250,10 +304,10 @@ module _ {R : Type 0} (rack : Ghosts R) (none : (s : R) → rack.made s [] s) (b
     by Save (Lost s) None h = λ less. h (reduced less)
     by Save NotSaved (Some n) h = h
     by Save r o h = tt
-    by (DropDisk s j) r o h = h
-    by (MendDisk s j) r o h = h
+    by (DropDisk s j) r o h = tt
+    by (MendDisk s j) r o h = tt
 
-  led_by : (Stands : Type 0 → State → Type 0) (a b : Running R) (event : Event) (reply : Reply) → GoesBy rack event a b → IsOfPairs a event reply (base_room (below_of a)) → GoesKeeping rack event reply a b
+  led_by : (Stands : Type 0 → State → Type 0) (a b : Running R) (event : Event) (reply : Reply) → GoesBy rack event a b → IsOfRoom a event reply (base_room (below_of a)) → GoesKeeping rack event reply a b
       → (origin : Origin (LiveRack (Base R))) (state next : State) → StandsIn (running rack) (WasHeld (running rack) origin) a state → Stands (WasHeld (running rack) origin) next
       → volumes.StandsIn any_phase (running rack) (WasHeld (running rack) origin) b.volume next → Step (Known (WasHeld (running rack) origin) (running rack) b) state event reply next
       → Leads rack Stands origin state a b (event ∷ []) (reply ∷ [])
@@ -266,20 +320,21 @@ module _ {R : Type 0} (rack : Ghosts R) (none : (s : R) → rack.made s [] s) (b
         known = λ tells held. held;
         course = (
           standing_of b next,
-          leads_on a b event reply state next goes st.volume volume (pairs_in a state event reply (base_room (below_of a)) st pairs) lesser
+          leads_on a b event reply state next goes st.volume volume (pairs_in a state event reply (base_room (below_of a)) st pairs)
+              (disks_over rack _ event reply a b state next goes.on.ready keeps st.volume step) lesser
               (λ known. keeps_over rack none both law origin a b state next goes.on.boundaries goes.on.ready st volume known event reply keeps lesser),
           refl,
         );
       }
 
-  pub runs_of : (a b : Running R) (event : Event) (reply : Reply) → GoesBy rack event a b → IsOfPairs a event reply (base_room (below_of a)) → GoesKeeping rack event reply a b
+  pub runs_of : (a b : Running R) (event : Event) (reply : Reply) → GoesBy rack event a b → IsOfRoom a event reply (base_room (below_of a)) → GoesKeeping rack event reply a b
       → StepsTo (running rack) a event reply b
       → RunsTo rack a (event ∷ []) (reply ∷ []) b
   runs_of a b event reply goes pairs keeps steps origin state st =
       let one = steps origin state st in
       led_by (λ P next. StandsIn (running rack) P b next) a b event reply goes pairs keeps origin state one.0 st one.1 one.1.volume one.2
 
-  pub volume_runs_of : (a b : Running R) (event : Event) (reply : Reply) → GoesBy rack event a b → IsOfPairs a event reply (base_room (below_of a)) → GoesKeeping rack event reply a b
+  pub volume_runs_of : (a b : Running R) (event : Event) (reply : Reply) → GoesBy rack event a b → IsOfRoom a event reply (base_room (below_of a)) → GoesKeeping rack event reply a b
       → VolumeStepsTo (running rack) a event reply b
       → VolumeRunsTo rack a (event ∷ []) (reply ∷ []) b
   volume_runs_of a b event reply goes pairs keeps steps origin state st =
@@ -323,7 +378,7 @@ module _ {R : Type 0} (rack : Ghosts R) (none : (s : R) → rack.made s [] s) (b
 
   -- ---- answers
 
-  module _ (event : Event) (taken given : Option (List ℕ)) (a b : Running R) (goes : GoesBy rack event a b) (pairs : (reply : Reply) → IsOfPairs a event reply (base_room (below_of a)))
+  module _ (event : Event) (taken given : Option (List ℕ)) (a b : Running R) (goes : GoesBy rack event a b) (pairs : (reply : Reply) → IsOfRoom a event reply (base_room (below_of a)))
       (keeps : (reply : Reply) → GoesKeeping rack event reply a b) where
     pub event_answered : {T E : Type 0} (result : Result T E) → OnOk result (Answered (running rack) event taken given a b) → OnOk result (EventAnswered rack event taken given a b)
     event_answered (Ok done) h = record { reply = h.reply; runs = runs_of a b event h.reply goes (pairs h.reply) (keeps h.reply) h.steps; output = h.output }

@@ -18,7 +18,7 @@ use Rattle.dg_model.specs.Moments.{IsInUse, faults_at}
 use Rattle.dg_model.specs.Moments.Kind.{double}
 use Rattle.dg_model.specs.States.{State, place_of}
 use Rattle.dg_model.specs.declared.events.Event.{Event}
-use Rattle.dg_model.specs.declared.events.Event.TheVariants.{Replace, Save}
+use Rattle.dg_model.specs.declared.events.Event.TheVariants.{DropDisk, MendDisk, Replace, Save}
 use Rattle.dg_model.specs.declared.members.MemberState.{MemberState}
 use Rattle.dg_model.specs.declared.members.MemberState.TheVariants.{Filling, Good, Out}
 use Rattle.dg_model.specs.declared.replies.Reply.{Reply}
@@ -27,9 +27,10 @@ use Rattle.dg_regroup.specs.FrontRacks.{IsKeptShown}
 use Rattle.dg_run.proofs.BaseTies.{base_after, base_both, base_known_on, base_none, keeps_outer, kept_known, kept_own}
 use Rattle.dg_run.proofs.Checkpoints.{keeps_made, no_blank_read}
 use Rattle.dg_run.proofs.Doubling.{course_tells, faults_of, happens_double, number_low}
-use Rattle.dg_run.proofs.Laters.{later_went, went_by}
-use Rattle.dg_run.specs.Bases.{Base, BaseCommits, base, base_counts, base_known, base_room, outer}
-use Rattle.dg_run.specs.Courses.{AnswersBy, AreFaultsOf, AreInUse, Course, IsLeftIn, KeepsAnew, KeepsBegun, KeepsLost, KeepsSome, Leading, Standing, Went}
+use Rattle.dg_run.proofs.Handling.{no_disk}
+use Rattle.dg_run.proofs.Happening.{later_led, led_by_calls}
+use Rattle.dg_run.specs.Bases.{Base, BaseCommits, HasNoDisks, base, base_counts, base_known, base_room, outer}
+use Rattle.dg_run.specs.Courses.{AnswersBy, AreFaultsOf, AreInUse, Course, IsLeftIn, KeepsAnew, KeepsBegun, KeepsLost, KeepsSome, Leading, Standing}
 use Rattle.dg_run.specs.Histories.{on_double}
 use Rattle.dg_run.specs.Keeping.{Books, IsBy, IsCheckpoint, IsKeptAs, IsLeftOf, IsOwn, Keeping, KeepsAlong, Mark, Reopens, ReopensAs, is_serving, is_there, leaves_entry, made_anew, marked_by, marks_in_use, marks_without}
 use Rattle.dg_run.specs.Keeping.Keeping.{begun, found, nothing, saved, untold}
@@ -200,7 +201,7 @@ module _ {R : Type 0} (rack : Ghosts R) where
     ]
 
   module _ (none : (s : R) → rack.made s [] s) (both : (a b c : R) (x y : List RackCall) → rack.made a x b → rack.made b y c → rack.made a (x ++ y) c)
-      (law : (a b : R) (made : List RackCall) → rack.made a made b → After rack made a b) where
+      (law : (a b : R) (made : List RackCall) → rack.made a made b → After rack made a b) (lacks : HasNoDisks rack) where
     -- a rack that keeps something has room for it
     has_room : (room : ℕ) (old : Standing (Base R)) → base_room old.rack ≡ Some room → AnswersBy old.state Save NotSaved (base_room old.rack) → ⊥
     has_room room old has answers = subst (λ (o : Option ℕ). AnswersBy old.state Save NotSaved o) has answers
@@ -222,6 +223,10 @@ module _ {R : Type 0} (rack : Ghosts R) where
     kept_step K known room kept old (Replace s j) Done new has h on = (made_anew kept (2 * s + j) new.state, refl, kept_anew (2 * s + j) old new (h.keeps known) kept on)
     kept_step K known room kept old (Replace s j) Failed new has h on = (made_anew kept (2 * s + j) new.state, refl, kept_anew (2 * s + j) old new (h.keeps known) kept on)
     kept_step K known room kept old (Replace s j) reply new has h on = (kept, refl, kept_on kept old.rack new.rack (h.keeps known) on)
+    kept_step K known room kept old (DropDisk s j) reply new has h on =
+        (kept, refl, subst (λ (now : Standing (Base R)). KeptOn rack kept now.rack) (sym (no_disk rack lacks old (DropDisk s j) reply new h.disks).1) on)
+    kept_step K known room kept old (MendDisk s j) reply new has h on =
+        (kept, refl, subst (λ (now : Standing (Base R)). KeptOn rack kept now.rack) (sym (no_disk rack lacks old (MendDisk s j) reply new h.disks).1) on)
     kept_step K known room kept old event reply new has h on = (kept, refl, kept_read new.state.boundaries kept old.rack new.rack h.went on)
 
     -- and along a course
@@ -234,9 +239,9 @@ module _ {R : Type 0} (rack : Ghosts R) where
     keeps_along K known room kept old [] (reply ∷ replies) new has in_use tied told on h = absurd h
     keeps_along K known room kept old (event ∷ events) [] new has in_use tied told on h = absurd h
     keeps_along K known room kept old (event ∷ events) (reply ∷ replies) new has in_use tied told on h =
-        let later = later_went rack none both law event h.0.state.boundaries old.rack h.0.rack h.1.went in
+        let later = later_led rack none both law lacks old h.0 event reply h.1 in
         let step = kept_step K known room kept old event reply h.0 has h.1 on in
-        let happens = happens_double rack none both law K room old h.0 event reply has in_use tied (λ k. course_tells rack none both law K h.0 events replies new h.1.in_use h.2 (told k)) h.1 in
+        let happens = happens_double rack none both law lacks K room old h.0 event reply has in_use tied (λ k. course_tells rack none both law lacks K h.0 events replies new h.1.in_use h.2 (told k)) h.1 in
         let rest = keeps_along K known room step.0 h.0 events replies new (later.room ∙ has) h.1.in_use h.1.tied told step.2 h.2 in
         (rest.0, (on_double rack h.0, step.0, happens, step.1, rest.1), rest.2)
 
@@ -260,14 +265,15 @@ module _ {R : Type 0} (rack : Ghosts R) where
       known_kept q x y commits (inr (inl missed)) = inr (inl missed)
       known_kept q x y commits (inr (inr failed)) = inr (inr (let rise = kept_own rack x y commits q in omega (arith, failed, rise)))
 
-      known_went : (event : Event) (bound : ℕ) (x y : Base R) → Went rack event bound x y → KnownOrFailed Missed boundaries x → KnownOrFailed Missed boundaries y
-      known_went event bound x y went known =
-          let parts = went_by rack none both law event bound x y went in
-          let whole = makes_made (base rack) (IsAnyCallBelow bound) (base_none rack none) (base_both rack both) x parts.0 parts.1 in
-          by parts.0 (λ q low. known_called q x parts.0 whole.calls whole.made (known q low)) parts.2 where
-            by : (mid : Base R) → KnownOrFailed Missed boundaries mid → (y ≡ mid) ⊎ BaseCommits rack mid y → KnownOrFailed Missed boundaries y
+      known_led : {K : Type 0} (old new : Standing (Base R)) (event : Event) (reply : Reply) → Leading rack K old event reply new → KnownOrFailed Missed boundaries old.rack
+          → KnownOrFailed Missed boundaries new.rack
+      known_led old new event reply h known =
+          let parts = led_by_calls rack none both law lacks old new event reply h in
+          let whole = makes_made (base rack) (IsAnyCallBelow new.state.boundaries) (base_none rack none) (base_both rack both) old.rack parts.0 parts.1 in
+          by parts.0 (λ q low. known_called q old.rack parts.0 whole.calls whole.made (known q low)) parts.2 where
+            by : (mid : Base R) → KnownOrFailed Missed boundaries mid → (new.rack ≡ mid) ⊎ BaseCommits rack mid new.rack → KnownOrFailed Missed boundaries new.rack
             by mid on (inl same) = subst (λ (s : Base R). KnownOrFailed Missed boundaries s) (sym same) on
-            by mid on (inr commits) = λ q low. known_kept q mid y commits (on q low)
+            by mid on (inr commits) = λ q low. known_kept q mid new.rack commits (on q low)
 
       pub known_along : (K : Type 0) (old : Standing (Base R)) (events : List Event) (replies : List Reply) (new : Standing (Base R)) → Course rack K old events replies new
           → KnownOrFailed Missed boundaries old.rack → KnownOrFailed Missed boundaries new.rack
@@ -275,7 +281,7 @@ module _ {R : Type 0} (rack : Ghosts R) where
       known_along K old [] (reply ∷ replies) new h known = absurd h
       known_along K old (event ∷ events) [] new h known = absurd h
       known_along K old (event ∷ events) (reply ∷ replies) new h known =
-          known_along K h.0 events replies new h.2 (known_went event h.0.state.boundaries old.rack h.0.rack h.1.went known)
+          known_along K h.0 events replies new h.2 (known_led old h.0 event reply h.1 known)
 
     -- ---- what is reopened
 

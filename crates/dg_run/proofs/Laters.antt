@@ -1,7 +1,10 @@
 -- What events leave of the rack of the run, and of an array that stands on it.
-use Rattle.std.proofs.Common.{◌≡◌, ◌⊎◌, ◌∙◌, ◌/◌, ◌≤◌, ◌<◌, ℕ, true, List, [], ◌++◌, ap, arith, inl, inr, map, refl, subst, sym}
+use Rattle.std.proofs.Common.{◌≡◌, ◌⊎◌, ◌∙◌, ◌/◌, ◌≤◌, ◌<◌, ℕ, false, true, List, [], ◌++◌, ap, arith, inl, inr, length, map, refl, slice_index, subst, sym}
+use Rattle.std.specs.Prelude.{slice_index_or}
+use Rattle.std.proofs.lemmas.List.Elements.{All-get_or}
+use Rattle.dg_io.specs.DiskAnswers.{HandlesAs}
 use Rattle.dg_io.specs.Makes.{Makes}
-use Rattle.dg_io.specs.MakesLaws.{makes_made, makes_such}
+use Rattle.dg_io.specs.MakesLaws.{makes_made, makes_none, makes_such}
 use Rattle.dg_io.specs.MadeLaws.{each_such}
 use Rattle.dg_io.specs.RackCalls.{IsNotOn, RackCall}
 use Rattle.dg_io.specs.RackCalls.RackCall.{blanks, calls, extends, looks}
@@ -9,16 +12,19 @@ use Rattle.dg_io.specs.RackWords.{After}
 use Rattle.dg_io.specs.declared.outside.Rack.{Ghosts}
 use Rattle.dg_model.specs.declared.events.Event.{Event}
 use Rattle.dg_model.specs.declared.events.Event.TheVariants.{Array as MakeArray, Safe, Parity, Write, Read, Fail, Replace, Rebuild, Settle, Tend, Diffuse, Who, Pending, Cat, Ls, Tree, Home, Save, Regroup, LostFiles, Audit, DropDisk, MendDisk}
-use Rattle.dg_model.specs.Lives.{boundary_at}
+use Rattle.dg_model.proofs.RegroupLaws.{place_at}
+use Rattle.dg_model.specs.Lives.{boundary_at, place_in}
+use Rattle.dg_model.specs.States.{Counts}
 use Rattle.dg_regroup.specs.LiveRacks.{DropsBoundaries, LiveCommits, live_count, live_in, live_room}
-use Rattle.dg_run.proofs.BaseTies.{base_after, base_both, base_none, kept_alone, kept_name, kept_out, kept_plain, kept_rise, kept_room, kept_still, kept_tell, kept_told, outer_alone, outer_name, outer_plain, outer_rise, outer_room, outer_stand, outer_still, outer_told, tells_outer, told_outer}
-use Rattle.dg_run.proofs.Continuing.{ContinuesBy, begins_on, reads_by, reads_none, reads_out, replaces_by, saves_by, whole_on}
+use Rattle.dg_run.proofs.BaseTies.{base_after, base_both, base_handled, base_none, calls_behind, kept_alone, kept_groups, kept_name, kept_out, kept_plain, kept_rise, kept_room, kept_still, kept_tell, kept_told, outer_alone, outer_name, outer_plain, outer_rise, outer_room, outer_stand, outer_still, outer_told, tells_outer, told_outer}
+use Rattle.dg_run.proofs.Continuing.{ContinuesBy, begins_on, groups_on, reads_by, reads_none, reads_out, replaces_by, saves_by, whole_on}
+use Rattle.dg_run.proofs.Segments.{IsOfKind, of_reads, of_replacements, of_saves, told_same}
 use Rattle.dg_run.proofs.TakenOut.{WentLost, none_went}
 use Rattle.dg_run.specs.Bases.{Base, BaseCommits, base, base_counts, base_room, outer}
-use Rattle.dg_run.specs.Courses.{Went}
+use Rattle.dg_run.specs.Courses.{CallsDisk, Went}
 use Rattle.dg_run.specs.Histories.{Continues, IsReady, Later, Running, TellsLine, below_of, boundaries_of, live_of, running}
 use Rattle.dg_run.specs.Plain.{is_plain}
-use Rattle.dg_run.specs.Steps.{GoesKept, GoesReplaced, GoesSaved, IsSound, rack_of}
+use Rattle.dg_run.specs.Steps.{GoesHandled, GoesKept, GoesReplaced, GoesSaved, IsSound, rack_of}
 use Rattle.dg_stop.specs.DoubleLaws.{alone_both, alone_none}
 use Rattle.dg_store.specs.Leaves.{IsAnyCallBelow, IsCallBelow, IsCallOrBlankBelow, IsCallOrExtendBelow}
 use Rattle.dg_store.specs.ReadLaws.{any_of_blank, any_of_call, any_of_extend}
@@ -103,23 +109,71 @@ module _ {R : Type 0} (rack : Ghosts R) (none : (s : R) → rack.made s [] s) (b
         (alone_both rack q (outer x) (outer y) (outer z) front.0 back.0, back.1);
   }
 
-  -- what an event leaves of it: calls, and then nothing or a commit
-  pub went_by : (event : Event) (bound : ℕ) (x y : Base R) → Went rack event bound x y
-      → (mid : Base R) × Makes (base rack) (IsAnyCallBelow bound) x mid × ((y ≡ mid) ⊎ BaseCommits rack mid y)
-  went_by event bound x y went = by event went where
-    read : Makes (base rack) (IsCallBelow bound) x y → (mid : Base R) × Makes (base rack) (IsAnyCallBelow bound) x mid × ((y ≡ mid) ⊎ BaseCommits rack mid y)
-    read made = (y, makes_such (base rack) (IsCallBelow bound) (IsAnyCallBelow bound) (any_of_call bound) x y made, inl refl)
+  -- What an event leaves of it: calls, and then nothing or a commit; or a call on a disk.
+  abbrev pub WentBy : ℕ → Base R → Base R → Type 0
+  WentBy bound x y =
+      ((mid : Base R) × Makes (base rack) (IsAnyCallBelow bound) x mid × ((y ≡ mid) ⊎ BaseCommits rack mid y)) ⊎ ((s : ℕ) × (j : ℕ) × (s < bound) × (base rack).handles x s j y)
 
-    by : (e : Event) → Went rack e bound x y → (mid : Base R) × Makes (base rack) (IsAnyCallBelow bound) x mid × ((y ≡ mid) ⊎ BaseCommits rack mid y)
-    by (Replace s j) w = (y, makes_such (base rack) (IsCallOrBlankBelow bound) (IsAnyCallBelow bound) (any_of_blank bound) x y w, inl refl)
-    by Save w = (w.0, makes_such (base rack) (IsCallOrExtendBelow bound) (IsAnyCallBelow bound) (any_of_extend bound) x w.0 w.1, w.2)
+  pub went_by : (event : Event) (bound : ℕ) (x y : Base R) → Went rack event bound x y → WentBy bound x y
+  went_by event bound x y went = by event went where
+    read : Makes (base rack) (IsCallBelow bound) x y → WentBy bound x y
+    read made = inl (y, makes_such (base rack) (IsCallBelow bound) (IsAnyCallBelow bound) (any_of_call bound) x y made, inl refl)
+
+    called : (s j : ℕ) → CallsDisk rack s j bound x y → WentBy bound x y
+    called s j (inl same) = inl (x, makes_none (base rack) (IsAnyCallBelow bound) x, inl same)
+    called s j (inr call) = inr (s, j, call.0, call.1)
+
+    by : (e : Event) → Went rack e bound x y → WentBy bound x y
+    by (Replace s j) w = inl (y, makes_such (base rack) (IsCallOrBlankBelow bound) (IsAnyCallBelow bound) (any_of_blank bound) x y w, inl refl)
+    by Save w = inl (w.0, makes_such (base rack) (IsCallOrExtendBelow bound) (IsAnyCallBelow bound) (any_of_extend bound) x w.0 w.1, w.2)
+    by (DropDisk s j) w = called s j w
+    by (MendDisk s j) w = called s j w
     by event w = read w
 
-  pub later_went : (event : Event) (bound : ℕ) (x y : Base R) → Went rack event bound x y → Later rack bound x y
-  later_went event bound x y went = let parts = went_by event bound x y went in by parts.0 parts.1 parts.2 where
-    by : (mid : Base R) → Makes (base rack) (IsAnyCallBelow bound) x mid → (y ≡ mid) ⊎ BaseCommits rack mid y → Later rack bound x y
-    by mid made (inl same) = subst (λ (s : Base R). Later rack bound x s) (sym same) (later_made bound x mid made)
-    by mid made (inr commits) = later_both bound x mid y (later_made bound x mid made) (later_committed bound mid y commits)
+  module _ (handled : (a b : R) (s j : ℕ) → rack.handles a s j b → HandlesAs rack s j a b) where
+    -- a call on a disk of one of the first so many boundaries
+    pub later_handled : (s j bound : ℕ) (x y : Base R) → s < bound → (base rack).handles x s j y → Later rack bound x y
+    later_handled s j bound x y low is =
+        let call = calls_behind rack x.rack y.rack s j is.below in
+        let leaves = (handled (outer x) (outer y) s j call.handles).leaves in
+        record {
+          rise = record {
+            faults = λ q. omega (arith, ap (λ (c : Counts). c.faults q) leaves.counts_stay);
+            calls = omega (arith, ap (λ (c : Counts). c.calls) leaves.counts_stay);
+            writes = omega (arith, ap (λ (c : Counts). c.writes) leaves.counts_stay);
+          };
+          told_before = leaves.told_before;
+          same_rack = leaves.same_rack;
+          room = call.room;
+          plain = λ plain. record {
+            room = call.room ∙ plain.room;
+            length = is.length ∙ plain.length;
+            refused = record {
+              faults = λ q. ap (λ (l : List ℕ). slice_index l q) is.refused ∙ plain.refused.faults q;
+              writes = is.writes ∙ plain.refused.writes;
+            };
+          };
+          still = λ q whole. ap (λ fronts. slice_index_or fronts q false) is.fronts ∙ whole;
+          shows = is.length;
+          others = λ q past out. (
+            record {
+              bytes = leaves.same q;
+              faults = ap (λ (c : Counts). c.faults q) leaves.counts_stay;
+              stands = leaves.others_stand q (λ same. omega (arith, past, low, same));
+            },
+            call.idle q,
+          );
+        }
+
+    pub later_went : (event : Event) (bound : ℕ) (x y : Base R) → Went rack event bound x y → Later rack bound x y
+    later_went event bound x y went = by (went_by event bound x y went) where
+      made_then : (mid : Base R) → Makes (base rack) (IsAnyCallBelow bound) x mid → (y ≡ mid) ⊎ BaseCommits rack mid y → Later rack bound x y
+      made_then mid made (inl same) = subst (λ (s : Base R). Later rack bound x s) (sym same) (later_made bound x mid made)
+      made_then mid made (inr commits) = later_both bound x mid y (later_made bound x mid made) (later_committed bound mid y commits)
+
+      by : WentBy bound x y → Later rack bound x y
+      by (inl parts) = made_then parts.0 parts.1 parts.2
+      by (inr call) = later_handled call.0 call.1 bound x y call.2 call.3
 
   -- ---- events
 
@@ -146,22 +200,23 @@ module _ {R : Type 0} (rack : Ghosts R) (none : (s : R) → rack.made s [] s) (b
   went_plain Regroup is bound x y made = made
   went_plain LostFiles is bound x y made = made
   went_plain Audit is bound x y made = made
-  went_plain (DropDisk s j) is bound x y made = made
-  went_plain (MendDisk s j) is bound x y made = made
+  went_plain (DropDisk s j) is bound x y made = absurd (cc is)
+  went_plain (MendDisk s j) is bound x y made = absurd (cc is)
 
-  goes_of : {event : Event} (may : ℕ → RackCall → Type 0) → ((bound : ℕ) (x y : Base R) → Makes (base rack) (may bound) x y → Went rack event bound x y)
+  goes_of : {event : Event} (may : ℕ → RackCall → Type 0) → IsOfKind may → ((bound : ℕ) (x y : Base R) → Makes (base rack) (may bound) x y → Went rack event bound x y)
       → (a b : Running R) → ContinuesBy (base rack) may a b → GoesBy rack event a b
-  goes_of {event = event} may went a b goes = let here = went (boundaries_of a) (below_of a) (below_of b) goes.made in record {
+  goes_of may kind went a b goes = record {
     on = record {
       ready = goes.ready;
       line = goes.line;
       boundaries = goes.boundaries;
       whole = goes.whole;
       own = goes.own;
-      later = later_went event (boundaries_of a) (below_of a) (below_of b) here;
+      later = later_made (boundaries_of a) (below_of a) (below_of b)
+          (makes_such (base rack) (may (boundaries_of a)) (IsAnyCallBelow (boundaries_of a)) (kind.any (boundaries_of a)) (below_of a) (below_of b) goes.made);
       tells = goes.tells;
     };
-    went = here;
+    went = went (boundaries_of a) (below_of a) (below_of b) goes.made;
     took = goes.took;
   }
 
@@ -169,19 +224,19 @@ module _ {R : Type 0} (rack : Ghosts R) (none : (s : R) → rack.made s [] s) (b
   pub goes_read : {event : Event} → ((bound : ℕ) (x y : Base R) → Makes (base rack) (IsCallBelow bound) x y → Went rack event bound x y) → (a b : Running R) → IsReady rack a
       → Leaves any_phase any_phase (running rack) a.volume b.volume → GoesBy rack event a b
   goes_read went a b ready leaves =
-      goes_of IsCallBelow went a b (reads_by (base rack) (base_none rack none) (base_both rack both) (base_after rack law) a b ready leaves)
+      goes_of IsCallBelow of_reads went a b (reads_by (base rack) (base_none rack none) (base_both rack both) (base_after rack law) a b ready leaves)
 
   pub goes_plain : (event : Event) → is_plain event ≡ true → (a b : Running R) → IsReady rack a → Leaves any_phase any_phase (running rack) a.volume b.volume → GoesBy rack event a b
   goes_plain event is a b ready leaves = goes_read (went_plain event is) a b ready leaves
 
   pub goes_none : {event : Event} → ((bound : ℕ) (x y : Base R) → Makes (base rack) (IsCallBelow bound) x y → Went rack event bound x y) → (a : Running R) → IsReady rack a
       → GoesBy rack event a a
-  goes_none went a ready = goes_of IsCallBelow went a a (reads_none (base rack) (base_none rack none) (base_both rack both) (base_after rack law) a ready)
+  goes_none went a ready = goes_of IsCallBelow of_reads went a a (reads_none (base rack) (base_none rack none) (base_both rack both) (base_after rack law) a ready)
 
   -- by one that makes a member anew
   pub goes_replaced : (s j : ℕ) (a b : Running R) → IsReady rack a → GoesReplaced (running rack) a b → GoesBy rack (Replace s j) a b
   goes_replaced s j a b ready leaves =
-      goes_of IsCallOrBlankBelow (λ bound x y made. made) a b (replaces_by (base rack) (base_none rack none) (base_both rack both) (base_after rack law) a b ready leaves)
+      goes_of IsCallOrBlankBelow of_replacements (λ bound x y made. made) a b (replaces_by (base rack) (base_none rack none) (base_both rack both) (base_after rack law) a b ready leaves)
 
   -- by a save, which may make a checkpoint
   module _ (a b : Running R) (ready : IsReady rack a) (k : KeepsSaved any_phase (running rack) (live_room base_room) (LiveCommits (BaseCommits rack)) a.hot a.volume b.volume) where
@@ -201,12 +256,14 @@ module _ {R : Type 0} (rack : Ghosts R) (none : (s : R) → rack.made s [] s) (b
           sound = sound;
           longer = begins.longer;
           places = begins.places;
+          groups = groups_on ((base rack).disks (below_of mid)) ((base rack).disks (below_of b)) (boundaries_of mid) (boundaries_of b)
+              (kept_groups rack (below_of mid) (below_of b) k.commits.beside.below) (boundaries ∙ sym saved.boundaries) saved.ready.groups;
         }
 
   goes_by_kept : (a b : Running R) → IsReady rack a → (goes : GoesKept (running rack) (live_room base_room) (LiveCommits (BaseCommits rack)) a b)
       → GoesSaved (running rack) a b ⊎ KeepsSaved any_phase (running rack) (live_room base_room) (LiveCommits (BaseCommits rack)) a.hot a.volume b.volume → GoesBy rack Save a b
   goes_by_kept a b ready goes (inl saved) =
-      goes_of IsCallOrExtendBelow (λ bound x y made. (y, made, inl refl)) a b (saves_by (base rack) (base_none rack none) (base_both rack both) (base_after rack law) a b ready saved)
+      goes_of IsCallOrExtendBelow of_saves (λ bound x y made. (y, made, inl refl)) a b (saves_by (base rack) (base_none rack none) (base_both rack both) (base_after rack law) a b ready saved)
   goes_by_kept a b ready goes (inr k) =
       let first = saved a b ready k in
       let commits : BaseCommits rack (below_of (mid a b ready k)) (below_of b) = k.commits.beside.below in
@@ -219,7 +276,10 @@ module _ {R : Type 0} (rack : Ghosts R) (none : (s : R) → rack.made s [] s) (b
           whole = λ whole. whole_on (base rack) (base_none rack none) (base_both rack both) (base_after rack law) (mid a b ready k) b (same_in a b ready k) k.live
               (goes.boundaries ∙ sym first.boundaries) (first.whole whole);
           own = record { calls = k.commits.beside.calls ∙ first.own.calls; writes = k.commits.beside.writes ∙ first.own.writes };
-          later = later_went Save (boundaries_of a) (below_of a) (below_of b) went;
+          later = later_both (boundaries_of a) (below_of a) (below_of (mid a b ready k)) (below_of b)
+              (later_made (boundaries_of a) (below_of a) (below_of (mid a b ready k))
+              (makes_such (base rack) (IsCallOrExtendBelow (boundaries_of a)) (IsAnyCallBelow (boundaries_of a)) (any_of_extend (boundaries_of a)) (below_of a) (below_of (mid a b ready k)) first.made))
+              (later_committed (boundaries_of a) (below_of (mid a b ready k)) (below_of b) commits);
           tells = λ q told. first.tells q (kept_tell rack (below_of (mid a b ready k)) (below_of b) commits q told);
         };
         went = went;
@@ -233,7 +293,59 @@ module _ {R : Type 0} (rack : Ghosts R) (none : (s : R) → rack.made s [] s) (b
   pub goes_out : (a b : Running R) → IsReady rack a → GoesOn any_phase (running rack) a.volume b.volume
       → (out : TakesOut (running rack) live_count DropsBoundaries a.volume.store b.volume.store) → live_of b ≡ map (boundary_at (live_of a)) (left_in out.mid) → GoesBy rack Regroup a b
   goes_out a b ready goes out is =
-      goes_of IsCallBelow (λ bound x y made. made) a b (reads_out (base rack) (base_none rack none) (base_both rack both) (base_after rack law) a b ready goes out is)
+      goes_of IsCallBelow of_reads (λ bound x y made. made) a b (reads_out (base rack) (base_none rack none) (base_both rack both) (base_after rack law) a b ready goes out is)
+
+  -- by one on a disk, where nothing was done, or a disk of a boundary in use was called
+  module _ {event : Event} (s j : ℕ) (went : (bound : ℕ) (x y : Base R) → CallsDisk rack s j bound x y → Went rack event bound x y) where
+    goes_idle : (a : Running R) → IsReady rack a → GoesBy rack event a a
+    goes_idle a ready = let on = reads_none (base rack) (base_none rack none) (base_both rack both) (base_after rack law) a ready in record {
+      on = record {
+        ready = on.ready;
+        line = on.line;
+        boundaries = on.boundaries;
+        whole = on.whole;
+        own = on.own;
+        later = later_none (boundaries_of a) (below_of a);
+        tells = on.tells;
+      };
+      went = went (boundaries_of a) (below_of a) (below_of a) (inl refl);
+      took = on.took;
+    }
+
+    pub goes_handled : ((x y : R) (s j : ℕ) → rack.handles x s j y → HandlesAs rack s j x y) → (a b : Running R) → IsReady rack a → GoesHandled (running rack) s j a b
+        → GoesBy rack event a b
+    goes_handled handled a b ready goes = elim goes.handles [
+      | inl same ↦
+          let is : b ≡ a = λ i. record { volume = same i; hot = goes.hot i } in
+          subst (λ (array : Running R). GoesBy rack event a array) (sym is) (goes_idle a ready)
+      | inr call ↦
+          let place : ℕ = place_in (live_of a) s in
+          let number : boundary_at (live_in (rack_of a)) place ≡ s = ready.places place call.0 ∙ place_at (live_of a) s call.0 in
+          let within : slice_index (live_of a) place < boundaries_of a = All-get_or (λ t. t < boundaries_of a) (live_of a) place 0 call.0 ready.sound.in_use.live.within in
+          let low : s < boundaries_of a = omega (arith, within, place_at (live_of a) s call.0) in
+          let below : (base rack).handles (below_of a) s j (below_of b) = subst (λ (t : ℕ). (base rack).handles (below_of a) t j (below_of b)) number call.1.below in
+          let is = base_handled rack handled (below_of a) (below_of b) s j below in
+          let same_in : live_in (rack_of b) ≡ live_in (rack_of a) = ap (λ l. l.items) call.1.through.live in
+          let begins = begins_on (live_of a) (live_of b) (rack_of a) (rack_of b) same_in goes.live (record { longer = ready.longer; places = ready.places }) in
+          record {
+            on = record {
+              ready = record {
+                sound = goes.on.well;
+                longer = begins.longer;
+                places = begins.places;
+                groups = groups_on ((base rack).disks (below_of a)) ((base rack).disks (below_of b)) (boundaries_of a) (boundaries_of b) is.one.same_groups goes.on.boundaries ready.groups;
+              };
+              line = goes.on.line;
+              boundaries = goes.on.boundaries;
+              whole = whole_on (base rack) (base_none rack none) (base_both rack both) (base_after rack law) a b same_in goes.live goes.on.boundaries;
+              own = record { calls = call.1.through.calls; writes = call.1.through.writes };
+              later = later_handled handled s j (boundaries_of a) (below_of a) (below_of b) low below;
+              tells = λ q told. told_same _ _ (is.leaves.same q) told;
+            };
+            went = went (boundaries_of a) (below_of a) (below_of b) (inr (low, below));
+            took = none_went (base_counts rack (below_of a)).faults (base_counts rack (below_of b)).faults (members_of a.volume) (live_of a) (live_of b) goes.live;
+          }
+    ]
 
   -- ---- any of them
 

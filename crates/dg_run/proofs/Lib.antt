@@ -13,6 +13,7 @@ mod FileParts
 mod Finding
 mod FoundKept
 mod FoundPlain
+mod Handling
 mod Happening
 mod Inputs
 mod Laters

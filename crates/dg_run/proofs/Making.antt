@@ -24,11 +24,11 @@ use Rattle.dg_run.proofs.BaseTies.{base_both, base_none, base_stand_known, known
 use Rattle.dg_run.proofs.Broken.{WasLed}
 use Rattle.dg_run.proofs.Checkpoints.{here_at, number_at}
 use Rattle.dg_run.proofs.Doubling.{history_double}
-use Rattle.dg_run.proofs.Happening.{course_less, history_of, holds_in_use, in_use_in, tied_in}
+use Rattle.dg_run.proofs.Happening.{course_less, history_of, holds_in_use, in_use_in, later_led, tied_in}
 use Rattle.dg_run.proofs.Keepings.{KeptOn, KnownOrFailed, keeps_along, known_along, reopens}
-use Rattle.dg_run.proofs.Laters.{later_both, later_made, later_went}
+use Rattle.dg_run.proofs.Laters.{later_both, later_made}
 use Rattle.dg_run.proofs.Whole.{Meant}
-use Rattle.dg_run.specs.Bases.{Base, IsPlainBase, base, base_bytes, base_counts, base_room, outer}
+use Rattle.dg_run.specs.Bases.{Base, HasNoDisks, IsPlainBase, base, base_bytes, base_counts, base_room, outer}
 use Rattle.dg_run.specs.Courses.{AreInUse, Course, Standing}
 use Rattle.dg_run.specs.Histories.{Continues, IsBlankReady, KnownBy, Later, Running, RunsBefore, VolumeRunsTo, below_of, boundaries_of, live_of, on_double, on_pairs, running, standing_of}
 use Rattle.dg_run.specs.Keeping.{Keeping, KeepsFrom, MissesNone, Reopens, ShowsAll}
@@ -109,7 +109,7 @@ holds_by f g state same h = record {
 }
 
 module _ {R : Type 0} (rack : Ghosts R) (none : (s : R) → rack.made s [] s) (both : (a b c : R) (x y : List RackCall) → rack.made a x b → rack.made b y c → rack.made a (x ++ y) c)
-    (law : (a b : R) (made : List RackCall) → rack.made a made b → After rack made a b) where
+    (law : (a b : R) (made : List RackCall) → rack.made a made b → After rack made a b) (lacks : HasNoDisks rack) where
   -- a rack that keeps no checkpoint goes on so
   course_plain : (K : Type 0) (old : Standing (Base R)) (events : List Event) (replies : List Reply) (new : Standing (Base R)) → Course rack K old events replies new
       → IsPlainBase old.rack → IsPlainBase new.rack
@@ -117,7 +117,7 @@ module _ {R : Type 0} (rack : Ghosts R) (none : (s : R) → rack.made s [] s) (b
   course_plain K old [] (reply ∷ replies) new h is = absurd h
   course_plain K old (event ∷ events) [] new h is = absurd h
   course_plain K old (event ∷ events) (reply ∷ replies) new h is =
-      course_plain K h.0 events replies new h.2 ((later_went rack none both law event h.0.state.boundaries old.rack h.0.rack h.1.went).plain is)
+      course_plain K h.0 events replies new h.2 ((later_led rack none both law lacks old h.0 event reply h.1).plain is)
 
   -- its counts are those of the rack of the run
   same_moment : (now : Standing (Base R)) → IsPlainBase now.rack → on_pairs rack now ≡ on_double rack now
@@ -158,14 +158,14 @@ module _ {R : Type 0} (rack : Ghosts R) (none : (s : R) → rack.made s [] s) (b
     others_kept = record { held = λ q past. (left_alone q past).bytes; faults = λ q past. (left_alone q past).faults }
 
     plain_before : stop_room stop ≡ None → IsPlainBase before
-    plain_before lacks = record { room = ap (λ (s : StopRack R). stop_room s) made.whole.rack_is ∙ lacks; length = made.whole.length; refused = made.whole.refused }
+    plain_before keeps_none = record { room = ap (λ (s : StopRack R). stop_room s) made.whole.rack_is ∙ keeps_none; length = made.whole.length; refused = made.whole.refused }
 
     -- ---- histories
 
     plain_history : stop_room stop ≡ None → (K : Type 0) (events : List Event) (replies : List Reply) (final : Standing (Base R)) → Course rack K start events replies final
         → HistoryOf K (rack.counts (behind stop)) (MakeArray shape ∷ events) (Done ∷ replies) (on_double rack final)
-    plain_history lacks K events replies final course =
-        let old = plain_before lacks in
+    plain_history keeps_none K events replies final course =
+        let old = plain_before keeps_none in
         let is : IsPlainBase (below_of a) = later_first.plain old in (
           on_double rack start,
           record {
@@ -177,7 +177,7 @@ module _ {R : Type 0} (rack : Ghosts R) (none : (s : R) → rack.made s [] s) (b
           },
           subst (λ (m : Moment). History K plain m events replies (on_double rack final)) (same_moment start is)
               (subst (λ (m : Moment). History K plain (on_pairs rack start) events replies m) (same_moment final (course_plain K start events replies final course is))
-              (history_of rack none both law K start events replies final is made.blank.tied course)),
+              (history_of rack none both law lacks K start events replies final is made.blank.tied course)),
         )
 
     double_makes : (K : Type 0) → Makes K double (Safe shape) shape (rack.counts (behind stop)) (on_double rack start)
@@ -199,7 +199,7 @@ module _ {R : Type 0} (rack : Ghosts R) (none : (s : R) → rack.made s [] s) (b
         → (K → TellsBoundaries (rack.tells (outer final.rack)) final.state) → Course rack K start events replies final
         → HistoryOf K (rack.counts (behind stop)) (Safe shape ∷ events) (Done ∷ replies) (on_double rack final)
     double_history room has K events replies final told course =
-        (on_double rack start, double_makes K, history_double rack none both law K room start events replies final (room_first room has) in_use_first made.blank.tied.faults told course)
+        (on_double rack start, double_makes K, history_double rack none both law lacks K room start events replies final (room_first room has) in_use_first made.blank.tied.faults told course)
 
     history : (K : Type 0) (events : List Event) (replies : List Reply) (final : Standing (Base R)) → (K → TellsBoundaries (rack.tells (outer final.rack)) final.state)
         → Course rack K start events replies final → HistoryOf K (rack.counts (behind stop)) (first_line stop shape ∷ events) (Done ∷ replies) (on_double rack final)
@@ -241,7 +241,7 @@ module _ {R : Type 0} (rack : Ghosts R) (none : (s : R) → rack.made s [] s) (b
         subst (λ (p : ℕ). (base rack).stands (below_of a) p ≡ true) (number_at rack none both law a made.blank.ready q place ∙ own_first q low)
         (sym (rw (here_at rack none both law a made.blank.ready q place) refl) ∙ at)
 
-    known_first : KnownOrFailed rack none both law MissesNone shape.b (below_of a)
+    known_first : KnownOrFailed rack none both law lacks MissesNone shape.b (below_of a)
     known_first q low = elim (made.blank.is_blank.members q low) [
       | inl good ↦ inl (known_by_stand rack (below_of a) q stands_known (stands_first q low (λ out. cc (sym good ∙ out))))
       | inr out ↦ inr (inr (
@@ -258,14 +258,14 @@ module _ {R : Type 0} (rack : Ghosts R) (none : (s : R) → rack.made s [] s) (b
         → (last : Keeping) × KeepsFrom K (rack.counts (behind stop)) (Safe shape ∷ events) (Done ∷ replies) (on_double rack (standing_of b final)) last
         × Reopens MissesNone ShowsAll (rack.bytes (outer (below_of b))) final last
     kept_of K known room has steady events replies final stands told course =
-        let along = keeps_along rack none both law K known room nothing_yet start events replies (standing_of b final) (room_first room has) in_use_first made.blank.tied.faults told (kept_first room has steady) course in
+        let along = keeps_along rack none both law lacks K known room nothing_yet start events replies (standing_of b final) (room_first room has) in_use_first made.blank.tied.faults told (kept_first room has steady) course in
         let line : final.boundaries ≡ shape.b = ap (λ (s : State). s.boundaries) stands.is ∙ made.goes.boundaries ∙ made.blank.boundaries in
-        let known_last = known_along rack none both law MissesNone shape.b K start events replies (standing_of b final) course known_first in (
+        let known_last = known_along rack none both law lacks MissesNone shape.b K start events replies (standing_of b final) course known_first in (
           along.0,
           (on_double rack start, double_makes K, along.1),
-          reopens rack none both law MissesNone ShowsAll (standing_of b final) (in_use_in rack b final made.goes.ready stands) (tied_in rack none both law b final made.goes.ready stands)
+          reopens rack none both law lacks MissesNone ShowsAll (standing_of b final) (in_use_in rack b final made.goes.ready stands) (tied_in rack none both law b final made.goes.ready stands)
               (shows_whole (below_of b) (λ q. later_all.still q (made.whole.fronts q)))
-              (subst (λ (n : ℕ). KnownOrFailed rack none both law MissesNone n (below_of b)) (sym line) known_last) along.0 along.2,
+              (subst (λ (n : ℕ). KnownOrFailed rack none both law lacks MissesNone n (below_of b)) (sym line) known_last) along.0 along.2,
         )
 
     -- ---- runs

@@ -16,6 +16,7 @@ use Rattle.dg_run.proofs.ArraySteps.{steps_of}
 use Rattle.dg_run.proofs.BaseTies.{base_after, base_both, base_none}
 use Rattle.dg_run.proofs.Continuing.{told_mid, told_volume}
 use Rattle.dg_run.proofs.Laters.{continues_by, goes_out, goes_read}
+use Rattle.dg_run.proofs.Handling.{no_answer}
 use Rattle.dg_run.proofs.Happening.{leads_on, runs_of}
 use Rattle.dg_run.specs.Bases.{base}
 use Rattle.dg_run.specs.Histories.{Continues, IsReady, KnownBy, Running, RunsTo, TellsLine, below_of, running, standing_of}
@@ -69,7 +70,7 @@ module _ {R : Type 0} (rack : Ghosts R) (none : (s : R) → rack.made s [] s) (b
           sized = regroup_sized state r c one.0 one.2.1 st.sized;
         };
         known = known;
-        course = (standing_of b one.0, leads_on rack none both law a b Regroup (RegroupedReply r c) state one.0 on st.volume one.1 tt step (λ known. tt), refl);
+        course = (standing_of b one.0, leads_on rack none both law a b Regroup (RegroupedReply r c) state one.0 on st.volume one.1 tt (no_answer rack ((base rack).disks (below_of a)).width) step (λ known. tt), refl);
       }
 
   pub runs_answer : (a b : Running R) (answer : RegroupAnswer) → IsReady rack a → b.hot ≡ a.hot → GoesOn volumes.any_phase (running rack) a.volume b.volume

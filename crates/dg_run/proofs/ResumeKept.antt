@@ -23,7 +23,8 @@ use Rattle.dg_regroup.specs.FrontRacks.{front_room, rack_behind}
 use Rattle.dg_regroup.specs.LiveRacks.{is_there, live_in, live_room, rack_in}
 use Rattle.dg_regroup.specs.declared.extras.Extra.{Extra}
 use Rattle.dg_regroup.specs.declared.live_racks.LiveRack.{LiveRack}
-use Rattle.dg_run.proofs.BaseTies.{shows_said, some_base, told_outer}
+use Rattle.dg_regroup.specs.LiveDisks.{none_says}
+use Rattle.dg_run.proofs.BaseTies.{base_no_disks, shows_said, some_base, told_outer}
 use Rattle.dg_run.proofs.Doubling.{history_double}
 use Rattle.dg_run.proofs.FoundKept as kept
 use Rattle.dg_run.proofs.FoundKept.{said_beside, said_most}
@@ -31,7 +32,7 @@ use Rattle.dg_run.proofs.Happening.{course_less, in_use_in, tied_in}
 use Rattle.dg_run.proofs.Keepings.{KeptOn, KnownOrFailed, keeps_along, known_along, reopens}
 use Rattle.dg_run.proofs.ResumeEnds.{ahead_of, ends_resume, leaves_none}
 use Rattle.dg_run.specs.Arrays.{IsOfReplay}
-use Rattle.dg_run.specs.Bases.{Base, base, base_bytes, base_room, outer}
+use Rattle.dg_run.specs.Bases.{Base, HasNoDisks, base, base_bytes, base_room, outer}
 use Rattle.dg_run.specs.Calls.{Facts, met_by}
 use Rattle.dg_run.specs.Courses.{Course, Standing}
 use Rattle.dg_run.specs.Endings.{LinesBrokeOff, LinesCut, LinesRanOut}
@@ -128,7 +129,7 @@ module _ (once : (one other : Extra) → IsExtra one → IsExtra other → extra
 module _ {R : Type 0} (rack : Ghosts R) (none : (s : R) → rack.made s [] s) (both : (a b c : R) (x y : List RackCall) → rack.made a x b → rack.made b y c → rack.made a (x ++ y) c)
     (law : (a b : R) (made : List RackCall) → rack.made a made b → After rack made a b) (once : (one other : Extra) → IsExtra one → IsExtra other → extra_bytes one ≡ extra_bytes other → one ≡ other)
     (before : R) (start : LiveRack (Base R)) (extra : List ℕ) (found : OpensRack rack before start extra) (d : Double R) (at : rack_behind (rack_in start) ≡ Doubled d)
-    (a : Running R) (answers : AnswersBytes (running rack) (live_room (front_room stop_room)) start extra (Opened a.volume a.hot)) where
+    (a : Running R) (answers : AnswersBytes (running rack) (live_room (front_room stop_room)) start extra (Opened a.volume a.hot)) (lacks : HasNoDisks rack) where
   abbrev room : LiveRack (Base R) → Option ℕ
   room = live_room (front_room stop_room)
 
@@ -164,6 +165,7 @@ module _ {R : Type 0} (rack : Ghosts R) (none : (s : R) → rack.made s [] s) (b
     sound = answers.answers.opened.well;
     longer = subst (λ (l : List ℕ). length (live_of a) ≤ length l) (sym live_now) said.longer;
     places = λ x low. ap (λ (l : List ℕ). slice_index l x) live_now ∙ said.places x low;
+    groups = none_says (λ n. boundaries_of a ≤ ((base rack).disks (below_of a)).groups) ((base rack).disks (below_of a)).width (base_no_disks rack lacks (below_of a));
   }
 
   -- the rack had these counts then
@@ -293,7 +295,7 @@ module _ {R : Type 0} (rack : Ghosts R) (none : (s : R) → rack.made s [] s) (b
             → Course rack (KnownBy (WasHeld (running rack) was) (base rack) b) (standing_of a first.state) events replies final
             → History KnownEnd double (on_double rack (standing_of a first.state)) events replies (on_double rack final)
         resumed_to events replies final told course =
-            history_double rack none both law KnownEnd (kept.kept_now rack none both law before start now extra found d at made still).it.memory.room (standing_of a first.state) events replies final has_room
+            history_double rack none both law lacks KnownEnd (kept.kept_now rack none both law before start now extra found d at made still).it.memory.room (standing_of a first.state) events replies final has_room
             (in_use_in rack a first.state ready stands_first.volume) (tied_in rack none both law a first.state ready stands_first.volume) told
             (course_less rack known_end (standing_of a first.state) events replies final course)
 
@@ -318,7 +320,7 @@ module _ {R : Type 0} (rack : Ghosts R) (none : (s : R) → rack.made s [] s) (b
           told_end k q low = line k.0 q (subst (λ (n : ℕ). q / 2 < n) line_is low)
 
           -- each member was known then, or was missed, or a call on it failed
-          known_at_first : KnownOrFailed rack none both law (IsMissed met) final.boundaries (below_of a)
+          known_at_first : KnownOrFailed rack none both law lacks (IsMissed met) final.boundaries (below_of a)
           known_at_first q low =
               kept.known_first rack none both law before start now extra found d at made still (rack.counts (outer (below_of b))) (rack.bytes (outer (below_of b))) tells later goes.later.told_before
               goes.later.rise taken given q (let most = said.most in let few = said_most extra found.said found.is_said in omega (arith, low, line_is, goes.boundaries, most, few))
@@ -333,7 +335,7 @@ module _ {R : Type 0} (rack : Ghosts R) (none : (s : R) → rack.made s [] s) (b
                 record { entries = λ p. refl; extra = refl },
                 kept.keeps_first rack none both law before start now extra found d at made still was_kept.0 k was_kept.1,
               ) in
-              let along = keeps_along rack none both law KnownEnd known (kept.kept_now rack none both law before start now extra found d at made still).it.memory.room (found_as shown (λ p. there_still))
+              let along = keeps_along rack none both law lacks KnownEnd known (kept.kept_now rack none both law before start now extra found d at made still).it.memory.room (found_as shown (λ p. there_still))
               (standing_of a first.state) events replies (standing_of b final) has_room (in_use_in rack a first.state ready stands_first.volume)
               (tied_in rack none both law a first.state ready stands_first.volume) told_end keeps course in
               record {
@@ -341,10 +343,10 @@ module _ {R : Type 0} (rack : Ghosts R) (none : (s : R) → rack.made s [] s) (b
                 shows = kept.shows_first rack none both law before start now extra found d at made still k;
                 last = along.0;
                 along = along.1;
-                reopens = reopens rack none both law (IsMissed met) (IsShownBy found.said) (standing_of b final) (in_use_in rack b final goes.ready stands)
+                reopens = reopens rack none both law lacks (IsMissed met) (IsShownBy found.said) (standing_of b final) (in_use_in rack b final goes.ready stands)
                     (tied_in rack none both law b final goes.ready stands)
                     (shows_said found.said (below_of b) (goes.later.shows ∙ kept.long_now rack none both law before start now extra found d at made still))
-                    (known_along rack none both law (IsMissed met) final.boundaries KnownEnd (standing_of a first.state) events replies (standing_of b final) course known_at_first) along.0 along.2;
+                    (known_along rack none both law lacks (IsMissed met) final.boundaries KnownEnd (standing_of a first.state) events replies (standing_of b final) course known_at_first) along.0 along.2;
               }
 
         reached : (events : List Event) (replies : List Reply) → VolumeRunsTo rack a events replies b → ReachedKept tells met seen found.said opened source WasKept V events replies

@@ -38,9 +38,10 @@ use Rattle.dg_run.proofs.Segments.{there_by}
 use Rattle.dg_run.proofs.Continuing.{told_volume}
 use Rattle.dg_run.proofs.Happening.{counts_in, course_less, history_of}
 use Rattle.dg_run.proofs.Laters.{told_line}
-use Rattle.dg_run.proofs.BaseTies.{base_after, base_both, base_none}
+use Rattle.dg_regroup.specs.LiveDisks.{none_says}
+use Rattle.dg_run.proofs.BaseTies.{base_after, base_both, base_no_disks, base_none}
 use Rattle.dg_run.proofs.PlainFacts.{AreCounts, SeesNow, SeesPlain, either, from, found_no_state, found_unclean, opened_as, known_seen, same_now, stands_by}
-use Rattle.dg_run.specs.Bases.{Base, IsPlainBase, base, base_bytes, base_counts, outer}
+use Rattle.dg_run.specs.Bases.{Base, HasNoDisks, IsPlainBase, base, base_bytes, base_counts, outer}
 use Rattle.dg_run.specs.Calls.{Facts, met_by}
 use Rattle.dg_run.specs.Courses.{Course, Standing}
 use Rattle.dg_run.specs.Finds.{FindsPlain}
@@ -215,7 +216,7 @@ module _ {R : Type 0} (rack : Ghosts R) (none : (s : R) → rack.made s [] s) (b
   -- ---- an array was opened
 
   module _ (before : R) (start : LiveRack (Base R)) (extra : List ℕ) (found : OpensRack rack before start extra) (mid : R) (at : rack_behind (rack_in start) ≡ Plain mid) (a : Running R)
-      (answers : AnswersBytes (running rack) (live_room (front_room stop_room)) start extra (answers_are.Opened a.volume a.hot)) where
+      (answers : AnswersBytes (running rack) (live_room (front_room stop_room)) start extra (answers_are.Opened a.volume a.hot)) (lacks : HasNoDisks rack) where
     abbrev pub opened : HasOpenedBeside (running rack) answers.answers.beside start a.volume a.hot
     opened = answers.answers.opened
 
@@ -283,6 +284,7 @@ module _ {R : Type 0} (rack : Ghosts R) (none : (s : R) → rack.made s [] s) (b
           places = λ x low.
               let most = few in
               ap (λ (l : List ℕ). slice_index l x) all_in ∙ get_or-range_with_len 0 16 x 0 (omega (arith, low, most)) ∙ sym (place_is x low);
+          groups = none_says (λ n. boundaries_of a ≤ ((base rack).disks (below_of a)).groups) ((base rack).disks (below_of a)).width (base_no_disks rack lacks (below_of a));
         }
 
     own_none : (own_calls (rack_of a) ≡ 0) × (own_writes (rack_of a) ≡ 0)
@@ -441,7 +443,7 @@ module _ {R : Type 0} (rack : Ghosts R) (none : (s : R) → rack.made s [] s) (b
               below_same
               (subst (λ (s : State). History (IsKnown tells (met_by facts) (rack.counts (outer (below_of a))) source V) plain_kind (on_pairs rack (standing_of a s)) events replies (on_pairs rack final))
               (sym counts_back)
-              (history_of rack none both law _ (standing_of a first.state) events replies final plain_opened tied_first (course_less rack known_end (standing_of a first.state) events replies final course)));
+              (history_of rack none both law lacks _ (standing_of a first.state) events replies final plain_opened tied_first (course_less rack known_end (standing_of a first.state) events replies final course)));
         }
 
         resumed : (events : List Event) (replies : List Reply) → RunsBefore rack a events replies b → Resumed tells facts (rack.counts (outer (below_of a))) source V events replies

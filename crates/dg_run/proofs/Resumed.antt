@@ -19,7 +19,7 @@ use Rattle.dg_run.proofs.ResumeKept as kept
 use Rattle.dg_run.proofs.ResumeKept.{resumes_found}
 use Rattle.dg_run.proofs.ResumePlain as plain
 use Rattle.dg_run.specs.Arrays.{IsOfReplay}
-use Rattle.dg_run.specs.Bases.{Base, outer}
+use Rattle.dg_run.specs.Bases.{Base, HasNoDisks, outer}
 use Rattle.dg_run.specs.Calls.{Facts}
 use Rattle.dg_run.specs.Endings.{LinesBrokeOff, LinesCut, LinesRanOut}
 use Rattle.dg_run.specs.Founds.{OpensRack}
@@ -128,12 +128,12 @@ module _ {R : Type 0} (rack : Ghosts R) (none : (s : R) → rack.made s [] s) (b
   -- ---- an array was opened
 
   module _ (once : (one other : Extra) → IsExtra one → IsExtra other → extra_bytes one ≡ extra_bytes other → one ≡ other)
-      (a : Running R) (answers : AnswersBytes (running rack) room start extra (Opened a.volume a.hot)) where
+      (a : Running R) (answers : AnswersBytes (running rack) room start extra (Opened a.volume a.hot)) (lacks : HasNoDisks rack) where
     pub ready_opened : IsReady rack a
     ready_opened = by (rack_behind (rack_in start)) refl where
       by : (s : StopRack R) → rack_behind (rack_in start) ≡ s → IsReady rack a
-      by (Plain mid) at = plain.ready rack none both law before start extra found mid at a answers
-      by (Doubled d) at = kept.ready rack none both law once before start extra found d at a answers
+      by (Plain mid) at = plain.ready rack none both law before start extra found mid at a answers lacks
+      by (Doubled d) at = kept.ready rack none both law once before start extra found d at a answers lacks
 
     module _ (b : Running R) (goes : Continues rack a b) where
       pub name_opened : rack.name (outer (below_of b)) ≡ rack.name before
@@ -163,6 +163,6 @@ module _ {R : Type 0} (rack : Ghosts R) (none : (s : R) → rack.made s [] s) (b
       ends_opened left rest taken given unread more fresh status all bad broken cut wanting never = by (rack_behind (rack_in start)) refl where
         by : (s : StopRack R) → rack_behind (rack_in start) ≡ s → EndsResumed (rack.steady before) (rack.tells (outer (below_of b))) (met_end left rest taken given) status
         by (Plain mid) at =
-            plain.ends_plain_resume rack none both law before start extra found mid at a answers b goes left rest taken given unread more fresh status all bad broken cut wanting never
+            plain.ends_plain_resume rack none both law before start extra found mid at a answers lacks b goes left rest taken given unread more fresh status all bad broken cut wanting never
         by (Doubled d) at =
-            inr (inr (kept.ends_kept rack none both law once before start extra found d at a answers b goes left rest taken given unread more fresh status all bad broken cut wanting never))
+            inr (inr (kept.ends_kept rack none both law once before start extra found d at a answers lacks b goes left rest taken given unread more fresh status all bad broken cut wanting never))

@@ -104,7 +104,7 @@ among_not numbers p none (blanks c) h = λ same. none (h.0 / 2) h.1 (omega (arit
 among_not numbers p none (calls c) h = λ same. none (h.0 / 2) h.1 (omega (arith, same, h.2, half (slice_index numbers (h.0 / 2)) h.0))
 among_not numbers p none (extends c) h = λ same. none (h.0 / 2) h.1 (omega (arith, same, h.2, half (slice_index numbers (h.0 / 2)) h.0))
 
-told_same : (old new : Option (List ℕ)) → Told IsSame old new → IsSome new → IsSome old
+pub told_same : (old new : Option (List ℕ)) → Told IsSame old new → IsSome new → IsSome old
 told_same None None same told = told
 told_same None (Some b) same told = absurd same
 told_same (Some a) None same told = absurd (cc told)

@@ -13,7 +13,7 @@ use Rattle.dg_run.proofs.Happening.{event_answered, event_cut, event_wanted, wea
 use Rattle.dg_run.proofs.Laters.{GoesBy}
 use Rattle.dg_run.specs.Bases.{base_room}
 use Rattle.dg_run.specs.Histories.{Continues, EventAnswered, EventCut, EventWanted, Running, RunsTo, below_of, running}
-use Rattle.dg_run.specs.Plain.{IsOfPairs}
+use Rattle.dg_run.specs.Plain.{IsOfRoom}
 use Rattle.dg_run.specs.Steps.{Answered, AnsweredPart, WantedFor}
 use Rattle.dg_run.specs.declared.events.Fault.{Fault}
 use Rattle.dg_run.specs.declared.events.Fault.TheVariants.{NoMemory, Write}
@@ -30,7 +30,7 @@ module _ {R : Type 0} (rack : Ghosts R) (none : (s : R) → rack.made s [] s) (b
     (law : (a b : R) (made : List RackCall) → rack.made a made b → After rack made a b) where
   -- as the call says it of any array, whose rack has no disks
   pub serves : {T : Type 0} {e : Event} (event : Event) (taken given : Option (List ℕ)) (a b : Running R) (result : Result T Fault) → e ≡ event → GoesBy rack event a b
-      → ((reply : Reply) → IsOfPairs a event reply (base_room (below_of a))) → ((reply : Reply) → GoesKeeping rack event reply a b) → OnOk result (Answered (running rack) event taken given a b)
+      → ((reply : Reply) → IsOfRoom a event reply (base_room (below_of a))) → ((reply : Reply) → GoesKeeping rack event reply a b) → OnOk result (Answered (running rack) event taken given a b)
       → (result ≡ Err Write → AnsweredPart (running rack) event taken given a b) → (result ≡ Err NoMemory → WantedFor (running rack) event taken given a b)
       → Serves rack e taken given a b result
   serves event taken given a b result is goes pairs keeps answered part wanting = record {

@@ -13,7 +13,7 @@ use Rattle.dg_run.specs.Histories.{Running, VolumeRunsTo}
 use Rattle.dg_run.specs.Steps.{shape_of}
 use Rattle.dg_model.specs.declared.shapes.Shape.{Shape}
 use Rattle.dg_model.specs.declared.events.Event.{Event}
-use Rattle.dg_model.specs.declared.events.Event.TheVariants.{Array as MakeArray, Safe}
+use Rattle.dg_model.specs.declared.events.Event.TheVariants.{Array as MakeArray, Parity, Safe}
 use Rattle.dg_model.specs.declared.replies.Reply.{Reply}
 use Rattle.dg_model.specs.declared.replies.Reply.TheVariants.{Done}
 use Rattle.dg_model.specs.declared.members.MemberState.TheVariants.{Out}
@@ -54,6 +54,7 @@ first_in_place : (event : Event) (events : List Event) → AreInPlace (event ∷
     → IsInPlace None event × ((shape : Shape) × (shape_after (event ∷ events) ≡ Some shape) × All (IsInPlace (Some shape)) events)
 first_in_place (MakeArray s) events placed = (placed.0, (s, refl, placed.1))
 first_in_place (Safe s) events placed = (placed.0, (s, refl, placed.1))
+first_in_place (Parity s n) events placed = (placed.0, (s, refl, placed.1))
 first_in_place event events placed = absurd placed.0
 
 module _ {R : Type 0} (ghosts : Ghosts R) (none : (s : R) → ghosts.made s [] s)

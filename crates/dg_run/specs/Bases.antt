@@ -42,6 +42,10 @@ base_known it q = stop_known (rack_behind it) q
 abbrev pub BaseCommits : {R : Type 0} → Ghosts R → Base R → Base R → Type 0
 BaseCommits rack old new = FrontCommits (StopCommits rack) old new
 
+-- a rack that has no disks, whatever becomes of it
+abbrev pub HasNoDisks : {R : Type 0} → Ghosts R → Type 0
+HasNoDisks {R = R} rack = (it : R) → (rack.disks it).width ≡ None
+
 -- It keeps no checkpoint, and its members show all their bytes, or nothing: so its counts are those of the rack of the run.
 pub record IsPlainBase {R : Type 0} (it : Base R) : Type 0 where
   pub room : base_room it ≡ None

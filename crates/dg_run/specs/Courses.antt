@@ -1,18 +1,19 @@
 -- What became of an array event by event: its states, and the racks that its boundaries in use stood on. Such a rack is plain, or keeps a checkpoint; what
 -- the rack of the run became by it isn't asked here.
-use Rattle.std.specs.Prelude.{◌≡◌, ◌≢◌, ◌⊎◌, ◌+◌, ◌*◌, ◌/◌, ◌<◌, ◌∷◌, [], true, IsSome, List, Option, Some, None, ℕ, length}
+use Rattle.std.specs.Prelude.{◌≡◌, ◌≢◌, ◌⊎◌, ◌+◌, ◌*◌, ◌/◌, ◌<◌, ◌≤◌, ◌∷◌, [], true, false, IsSome, MatchOption, List, Option, Some, None, ℕ, length}
 use Rattle.dg_io.specs.Kept.{IsNothing, KeepsOn, Kept}
 use Rattle.dg_io.specs.Makes.{Makes}
 use Rattle.dg_io.specs.declared.outside.Rack.{Ghosts}
 use Rattle.dg_model.specs.Causes.{Rose}
 use Rattle.dg_model.specs.Lives.{AreLive, member_at}
-use Rattle.dg_model.specs.Moments.{IsInUse}
+use Rattle.dg_model.specs.Moments.{IsDisk, IsInUse}
 use Rattle.dg_model.specs.States.{State, place_of}
 use Rattle.dg_model.specs.Steps.{IsLostIn, IsReduced, Step}
 use Rattle.dg_model.specs.declared.events.Event.{Event}
 use Rattle.dg_model.specs.declared.events.Event.TheVariants.{DropDisk, MendDisk, Replace, Save}
+use Rattle.dg_model.specs.declared.members.MemberState.TheVariants.{Out}
 use Rattle.dg_model.specs.declared.replies.Reply.{Reply}
-use Rattle.dg_model.specs.declared.replies.Reply.TheVariants.{Done, Failed, Lost, NotParity, NotSaved, Saved}
+use Rattle.dg_model.specs.declared.replies.Reply.TheVariants.{Already, Done, Failed, Lost, Mended, NotOut, NotParity, NotSaved, Range, Saved}
 use Rattle.dg_run.specs.Bases.{Base, BaseCommits, base, base_counts, base_room}
 use Rattle.dg_run.specs.Keeping.{IsCheckpoint, IsPart, is_serving}
 use Rattle.dg_run.specs.Keeping.Mark.{there}
@@ -23,22 +24,25 @@ pub record Standing (R : Type 0) : Type 0 where
   pub state : State
   pub rack : R
 
--- An array in this state answers as one without disks; with a boundary out of use it is saved only where its rack has room for a checkpoint, and then
--- it is.
+-- With a boundary out of use an array in this state is saved only where its rack has room for a checkpoint, and then it is.
 abbrev pub AnswersBy : State → Event → Reply → Option ℕ → Type 0
 AnswersBy state Save (Saved q) None = IsReduced state → ⊥
 AnswersBy state Save (Lost s) None = IsReduced state → ⊥
 AnswersBy state Save NotSaved (Some room) = ⊥
-AnswersBy state (DropDisk s j) reply room = reply ≡ NotParity
-AnswersBy state (MendDisk s j) reply room = reply ≡ NotParity
 AnswersBy state event reply room = Unit {0}
 
+-- disk j of boundary s, one of the first so many, was called, or nothing was done
+abbrev pub CallsDisk : {R : Type 0} → Ghosts R → ℕ → ℕ → ℕ → Base R → Base R → Type 0
+CallsDisk rack s j bound old new = (new ≡ old) ⊎ ((s < bound) × (base rack).handles old s j new)
+
 -- What an event leaves of that rack: it reads and writes members of the first so many boundaries alone; a replacement may make them anew, too, and a save
--- extend them, and then make a checkpoint.
+-- extend them, and then make a checkpoint; and an event on a disk of such a boundary calls that, or does nothing.
 abbrev pub Went : {R : Type 0} → Ghosts R → Event → ℕ → Base R → Base R → Type 0
 Went {R = R} rack Save bound old new =
     (mid : Base R) × Makes (base rack) (IsCallOrExtendBelow bound) old mid × ((new ≡ mid) ⊎ BaseCommits rack mid new)
 Went rack (Replace s j) bound old new = Makes (base rack) (IsCallOrBlankBelow bound) old new
+Went rack (DropDisk s j) bound old new = CallsDisk rack s j bound old new
+Went rack (MendDisk s j) bound old new = CallsDisk rack s j bound old new
 Went rack event bound old new = Makes (base rack) (IsCallBelow bound) old new
 
 -- ---- what the rack keeps, where it keeps a checkpoint
@@ -96,7 +100,43 @@ KeepsOver rack Known old Save reply new = KeepsSave rack Known old reply new
 KeepsOver rack Known old (Replace s j) reply new = KeepsReplacement rack (2 * s + j) old reply new
 KeepsOver rack Known old event reply new = Unit {0}
 
+-- ---- single disks
+
+-- disk j of boundary s is out, or the boundary isn't in use
+abbrev pub IsOutOf : {R : Type 0} → Ghosts R → Standing (Base R) → ℕ → ℕ → Type 0
+IsOutOf rack now s j = (IsInUse now.state s → ⊥) ⊎ (((base rack).disks now.rack).out s j ≡ true)
+
+-- What an event on disk j of boundary s is answered, where groups have n disks each.
+abbrev pub AnswersDisk : {R : Type 0} → Ghosts R → ℕ → Standing (Base R) → Event → Reply → Standing (Base R) → Type 0
+AnswersDisk rack n old (DropDisk s j) Range new = (IsDisk n old.state s j → ⊥) × (new ≡ old)
+AnswersDisk rack n old (DropDisk s j) Already new = IsDisk n old.state s j × IsOutOf rack old s j × (new ≡ old)
+AnswersDisk rack n old (DropDisk s j) Done new = IsDisk n old.state s j × (IsOutOf rack old s j → ⊥) × (((base rack).disks new.rack).out s j ≡ true)
+AnswersDisk rack n old (DropDisk s j) reply new = ⊥
+AnswersDisk rack n old (MendDisk s j) Range new = (IsDisk n old.state s j → ⊥) × (new ≡ old)
+AnswersDisk rack n old (MendDisk s j) (Lost t) new = IsDisk n old.state s j
+AnswersDisk rack n old (MendDisk s j) NotOut new = IsDisk n old.state s j × (IsOutOf rack old s j → ⊥) × (new ≡ old)
+AnswersDisk rack n old (MendDisk s j) Failed new =
+    IsDisk n old.state s j × IsOutOf rack old s j × Rose (((base rack).disks old.rack).faults s j) (((base rack).disks new.rack).faults s j)
+AnswersDisk rack n old (MendDisk s j) (Mended c) new = IsDisk n old.state s j × IsOutOf rack old s j × (((base rack).disks new.rack).out s j ≡ false)
+AnswersDisk rack n old (MendDisk s j) reply new = ⊥
+AnswersDisk rack n old event reply new = Unit {0}
+
+-- and what it is answered where the rack has no disks
+abbrev pub HasNoDisk : {R : Type 0} → Standing (Base R) → Event → Reply → Standing (Base R) → Type 0
+HasNoDisk old (DropDisk s j) reply new = (reply ≡ NotParity) × (new ≡ old)
+HasNoDisk old (MendDisk s j) reply new = (reply ≡ NotParity) × (new ≡ old)
+HasNoDisk old event reply new = Unit {0}
+
+abbrev pub AnswersDisks : {R : Type 0} → Ghosts R → Standing (Base R) → Event → Reply → Standing (Base R) → Type 0
+AnswersDisks rack old event reply new =
+    MatchOption ((base rack).disks old.rack).width (HasNoDisk old event reply new) (λ n. AnswersDisk rack n old event reply new)
+
 -- ---- courses
+
+-- A member that isn't out stands, and none does anything behind those of the boundaries in use but being out.
+pub record AreStanding {R : Type 0} (rack : Ghosts R) (now : Standing (Base R)) : Type 0 where
+  pub stand : (q : ℕ) → q / 2 < length now.state.live → now.state.members q ≢ Out → (base rack).stands now.rack (member_at now.state.live q) ≡ true
+  pub beyond : (q : ℕ) → length now.state.live ≤ q / 2 → now.state.members q ≡ Out
 
 -- The boundaries in use ascend and are of the first line, and the array's numbers say how many they are.
 pub record AreInUse (state : State) : Type 0 where
@@ -122,7 +162,9 @@ pub record CountsOn {R : Type 0} (rack : Ghosts R) (old new : Standing (Base R))
 pub record Leading {R : Type 0} (rack : Ghosts R) (Known : Type 0) (old : Standing (Base R)) (event : Event) (reply : Reply) (new : Standing (Base R)) : Type 0 where
   pub step : Step Known old.state event reply new.state
   pub answers : AnswersBy old.state event reply (base_room old.rack)
+  pub disks : AnswersDisks rack old event reply new
   pub in_use : AreInUse new.state
+  pub standing : AreStanding rack new
   pub tied : AreFaultsOf rack new
   pub took : TookLostOf rack old new
   pub counted : CountsOn rack old new

@@ -1,5 +1,5 @@
 -- An array of the boundaries in use beside the model's moments: the state that it is in, and the rack that these boundaries stand on.
-use Rattle.std.specs.Prelude.{◌≡◌, ◌⊎◌, ◌<◌, ◌≤◌, ◌/◌, ◌∷◌, [], ℕ, false, List, Option, length, slice_index}
+use Rattle.std.specs.Prelude.{◌≡◌, ◌⊎◌, ◌<◌, ◌≤◌, ◌/◌, ◌∷◌, [], ℕ, false, List, Option, IfSome, length, slice_index}
 use Rattle.dg_io.specs.Makes.{Makes}
 use Rattle.dg_io.specs.Told.{StillTold, Told, Took, TookPart}
 use Rattle.dg_io.specs.declared.outside.Rack.{Ghosts}
@@ -49,11 +49,13 @@ TellsLine rack array = (p : ℕ) → p / 2 < boundaries_of array → rack.tells 
 abbrev pub KnownBy : {R : Type 0} → Type 0 → Ghosts R → Array (LiveRack R) → Type 0
 KnownBy P rack array = TellsLine rack array × P
 
--- What holds between events: all is well with the array, and its boundaries in use are the first of its rack.
+-- What holds between events: all is well with the array, and its boundaries in use are the first of its rack. A rack of groups has one for each boundary of the
+-- first line.
 pub record IsReadyOn {R : Type 0} (rack : Ghosts R) (array : Array (LiveRack R)) : Type 0 where
   pub sound : IsSound (live rack) array
   pub longer : length (live_of array) ≤ length (live_in (rack_of array))
   pub places : (x : ℕ) → x < length (live_of array) → slice_index (live_in (rack_of array)) x ≡ slice_index (live_of array) x
+  pub groups : IfSome (rack.disks (below_of array)).width (λ n. boundaries_of array ≤ (rack.disks (below_of array)).groups)
 
 -- no call was made on a member that isn't there
 pub record OwnSame {R : Type 0} (old new : Array (LiveRack R)) : Type 0 where

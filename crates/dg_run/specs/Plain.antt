@@ -1,9 +1,9 @@
--- Which events have the plainest answer, and how an array answers whose rack has no disks.
+-- Which events have the plainest answer, and how an array is saved by the room for a checkpoint that its rack has.
 use Rattle.std.specs.Prelude.{◌≡◌, ◌<◌, ℕ, Bool, true, false, Option, Some, None, length}
 use Rattle.dg_model.specs.declared.events.Event.{Event}
-use Rattle.dg_model.specs.declared.events.Event.TheVariants.{Audit, Write, Fail, Rebuild, Settle, Tend, Diffuse, Who, Home, Save, DropDisk, MendDisk}
+use Rattle.dg_model.specs.declared.events.Event.TheVariants.{Audit, Write, Fail, Rebuild, Settle, Tend, Diffuse, Who, Home, Save}
 use Rattle.dg_model.specs.declared.replies.Reply.{Reply}
-use Rattle.dg_model.specs.declared.replies.Reply.TheVariants.{Lost, NotParity, NotSaved, Saved}
+use Rattle.dg_model.specs.declared.replies.Reply.TheVariants.{Lost, NotSaved, Saved}
 use Rattle.dg_run.specs.declared.arrays.Array.{Array}
 use Rattle.dg_volume.specs.Volumes as volumes
 
@@ -19,20 +19,15 @@ is_plain Diffuse = true
 is_plain (Who b) = true
 is_plain (Home path) = true
 is_plain Audit = true
-is_plain (DropDisk s j) = true
-is_plain (MendDisk s j) = true
 is_plain event = false
 
 -- a boundary of the first line isn't in use
 abbrev pub IsReduced : {R : Type 0} → Array R → Type 0
 IsReduced array = length (volumes.live_of array.volume) < (volumes.reduced_of array.volume).boundaries
 
--- So an array answers whose rack has no disks, and this room for a checkpoint: there is no disk to take out or to mend; and with a boundary out of use it
--- is saved only where there is room, and then it is.
-abbrev pub IsOfPairs : {R : Type 0} → Array R → Event → Reply → Option ℕ → Type 0
-IsOfPairs array Save (Saved q) None = IsReduced array → ⊥
-IsOfPairs array Save (Lost s) None = IsReduced array → ⊥
-IsOfPairs array Save NotSaved (Some room) = ⊥
-IsOfPairs array (DropDisk s j) reply room = reply ≡ NotParity
-IsOfPairs array (MendDisk s j) reply room = reply ≡ NotParity
-IsOfPairs array event reply room = Unit {0}
+-- So an array answers whose rack has this room for a checkpoint: with a boundary out of use it is saved only where there is room, and then it is.
+abbrev pub IsOfRoom : {R : Type 0} → Array R → Event → Reply → Option ℕ → Type 0
+IsOfRoom array Save (Saved q) None = IsReduced array → ⊥
+IsOfRoom array Save (Lost s) None = IsReduced array → ⊥
+IsOfRoom array Save NotSaved (Some room) = ⊥
+IsOfRoom array event reply room = Unit {0}

@@ -5,7 +5,7 @@ use Rattle.dg_model.specs.Moments.{HistoryOf, Moment}
 use Rattle.dg_model.specs.States.{Counts, HoldsAll, State}
 use Rattle.dg_model.specs.declared.shapes.Shape.{Shape}
 use Rattle.dg_model.specs.declared.events.Event.{Event}
-use Rattle.dg_model.specs.declared.events.Event.TheVariants.{Array, Safe}
+use Rattle.dg_model.specs.declared.events.Event.TheVariants.{Array, Parity, Safe}
 use Rattle.dg_model.specs.declared.replies.Reply.{Reply}
 use Rattle.dg_io.specs.Told.{IsSame, Told, Took}
 use Rattle.dg_text.specs.Lines.{line_of, input_of, longest, IsInPlace, AreInPlace}
@@ -22,6 +22,7 @@ abbrev pub shape_after : List Event → Option Shape
 shape_after [] = None
 shape_after (Array shape ∷ events) = Some shape
 shape_after (Safe shape ∷ events) = Some shape
+shape_after (Parity shape n ∷ events) = Some shape
 shape_after (event ∷ events) = None
 
 -- of each member of the boundaries of a state's first line the rack tells the bytes as long as the member stands

@@ -4,7 +4,7 @@ use Rattle.dg_io.specs.declared.outside.Rack.{Ghosts}
 use Rattle.dg_model.specs.Saves.{member_length}
 use Rattle.dg_model.specs.Shapes.{IsShape}
 use Rattle.dg_model.specs.declared.events.Event.{Event}
-use Rattle.dg_model.specs.declared.events.Event.TheVariants.{Array, Safe}
+use Rattle.dg_model.specs.declared.events.Event.TheVariants.{Array, Parity, Safe}
 use Rattle.dg_model.specs.declared.shapes.Shape.{Shape}
 use Rattle.dg_regroup.specs.FrontRacks.{HasNoneRefused, front_length, is_front, rack_behind}
 use Rattle.dg_run.specs.Bases.{Base}
@@ -18,6 +18,11 @@ use Rattle.dg_stop.specs.declared.stop_racks.StopRack.TheVariants.{Plain, Double
 abbrev pub first_line : {R : Type 0} → StopRack R → Shape → Event
 first_line (Plain it) shape = Array shape
 first_line (Doubled it) shape = Safe shape
+
+-- a first line that makes no array of groups of disks
+abbrev pub IsOfPairsLine : Event → Type 0
+IsOfPairsLine (Parity shape n) = ⊥
+IsOfPairsLine event = Unit {0}
 
 -- It is double over this rack, and no member was ever there. There is memory for all members of an array of this shape, and room for what is kept beside
 -- its state: 30 bytes, and 4 for each block.

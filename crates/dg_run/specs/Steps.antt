@@ -1,5 +1,5 @@
 -- An array beside the model's states.
-use Rattle.std.specs.Prelude.{◌≡◌, ◌⊎◌, ◌++◌, ℕ, List, Option, length}
+use Rattle.std.specs.Prelude.{◌≡◌, ◌⊎◌, ◌↔◌, ◌++◌, ℕ, List, Option, None, IfSome, length}
 use Rattle.dg_io.specs.declared.outside.Rack.{Ghosts}
 use Rattle.dg_io.specs.Told.{StillTold, Told, Took, TookPart}
 use Rattle.dg_model.specs.Paths.{PathOf}
@@ -18,8 +18,14 @@ use Rattle.dg_volume.specs.Commits.{KeepsBy, KeepsSaved, checkpoint_reply}
 use Rattle.dg_volume.specs.Origins.{Always, Origin, WasHeld}
 use Rattle.dg_volume.specs.Refills.{KeepsReplaced, replace_reply}
 use Rattle.dg_volume.specs.Volumes.{IsWell, Leaves, LeavesBy, any_phase}
+use Rattle.dg_volume.specs.Disks.{AnswersDrop, AnswersMend, IsInUse, LeavesDisks, drop_disk_reply, mend_disk_reply, place_of}
+use Rattle.dg_volume.specs.Regroups as regroups
 use Rattle.dg_volume.specs.Volumes as volumes
 use Rattle.dg_volume.specs.declared.commits.CheckpointAnswer.{CheckpointAnswer}
+use Rattle.dg_volume.specs.declared.disks.DropDiskAnswer.{DropDiskAnswer}
+use Rattle.dg_volume.specs.declared.disks.DropDiskAnswer.TheVariants.{Already as AlreadyOut, Plain as NoDisk}
+use Rattle.dg_volume.specs.declared.disks.MendDiskAnswer.{MendDiskAnswer}
+use Rattle.dg_volume.specs.declared.disks.MendDiskAnswer.TheVariants.{NotOut, Plain as NoDiskMended}
 use Rattle.dg_volume.specs.declared.refills.ReplaceAnswer.{ReplaceAnswer}
 use Rattle.ufs_model.specs.Listings.{Listed}
 
@@ -72,6 +78,30 @@ pub record ReplacedBy {R : Type 0} (rack : Ghosts R) (s j : ℕ) (reply : Reply)
 -- what stays of it where a member is replaced
 abbrev pub GoesReplaced : {R : Type 0} → Ghosts R → Array R → Array R → Type 0
 GoesReplaced rack old new = LeavesBy any_phase any_phase rack IsCallOrBlankBelow old.volume new.volume
+
+-- what stays of it where disk j of boundary s is called, which is in use, or nothing is done
+pub record GoesHandled {R : Type 0} (rack : Ghosts R) (s j : ℕ) (old new : Array R) : Type 0 where
+  pub on : regroups.GoesOn any_phase rack old.volume new.volume
+  pub hot : new.hot ≡ old.hot
+  pub live : volumes.live_of new.volume ≡ volumes.live_of old.volume
+  pub leaves : LeavesDisks rack s j old.volume new.volume
+  pub handles : (new.volume ≡ old.volume) ⊎ (IsInUse old.volume s × rack.handles (rack_of old) (place_of old.volume s) j (rack_of new))
+
+-- the loss of a disk had such a reply, and where it was out nothing was done
+pub record DroppedBy {R : Type 0} (rack : Ghosts R) (s j : ℕ) (reply : Reply) (old new : Array R) : Type 0 where
+  pub answer : DropDiskAnswer
+  pub is : reply ≡ drop_disk_reply answer
+  pub plain : (answer ≡ NoDisk) ↔ ((rack.disks (rack_of old)).width ≡ None)
+  pub answers : IfSome (rack.disks (rack_of old)).width (λ n. AnswersDrop rack n s j old.volume new.volume answer)
+  pub already : answer ≡ AlreadyOut → new.volume ≡ old.volume
+
+-- and the mending of one, and where it wasn't out nothing was done
+pub record MendedBy {R : Type 0} (rack : Ghosts R) (s j : ℕ) (reply : Reply) (old new : Array R) : Type 0 where
+  pub answer : MendDiskAnswer
+  pub is : reply ≡ mend_disk_reply s answer
+  pub plain : (answer ≡ NoDiskMended) ↔ ((rack.disks (rack_of old)).width ≡ None)
+  pub answers : IfSome (rack.disks (rack_of old)).width (λ n. AnswersMend rack n s j old.volume new.volume answer)
+  pub not_out : answer ≡ NotOut → new.volume ≡ old.volume
 
 -- ---- states
 

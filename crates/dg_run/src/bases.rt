@@ -4,7 +4,7 @@ ghost use Rattle.dg_model.specs.Lives.{all_live};
 ghost use Rattle.dg_model.specs.Shapes.{IsShape};
 ghost use Rattle.dg_regroup.specs.LiveRacks.{HasNoneAbsent, live_in, rack_in};
 ghost use Rattle.dg_run.specs.Bases.{outer};
-ghost use Rattle.dg_run.specs.Starts.{IsNewFor, IsStart, IsWhole, KeepsFirst};
+ghost use Rattle.dg_run.specs.Starts.{IsNewFor, IsOfPairsLine, IsStart, IsWhole, KeepsFirst};
 ghost use Rattle.dg_stop.specs.Doubles.{nothing_kept};
 ghost use Rattle.dg_stop.specs.StopRacks.{stop_keeps};
 ghost use Rattle.dg_text.specs.Lines.{IsInPlace};
@@ -70,7 +70,8 @@ fn blank_double<R: Rack + Drop>(
 
 /// What the array of a first line is made on: a plain rack, or for `safe` one that keeps a checkpoint.
 pub fn first_rack<R: Rack + Drop>(alloc: Global, rack: R, make: Event) -> Result<Start<R>, NoMemory>
-    requires { IsInPlace None make }
+    requires in_place { IsInPlace None make }
+    requires pairs { IsOfPairsLine make }
     ensures start { IfOk result (λ start. IsStart make rack start.stop start.shape) }
     ensures keeps { IfOk result (λ start. KeepsFirst R.Rack start.stop) }
 {

@@ -10,6 +10,7 @@ mod audits;
 mod bases;
 mod blocks;
 mod cats;
+mod disks;
 mod drills;
 mod events;
 mod images;

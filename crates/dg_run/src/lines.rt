@@ -15,7 +15,7 @@ use crate::arrays::Running;
 use crate::events::{Fault, Taken, take_event};
 use crate::input::Input;
 use crate::serve::serve;
-use dg_io::{Rack, Sink, Source};
+use dg_io::{Disks, Sink, Source};
 use dg_model::Shape;
 use dg_text::BadLine;
 use std::alloc::Global;
@@ -44,7 +44,7 @@ pub enum LinesEnd {
 }
 
 /// Takes a line of no more bytes than the room, on an array of blocks of the shape's size, does its event and writes the reply.
-fn serve_next<S: Source, K: Sink, R: Rack>(
+fn serve_next<S: Source, K: Sink, R: Disks>(
     alloc: Global,
     input: &mut Input,
     source: &mut S,
@@ -89,7 +89,7 @@ fn serve_next<S: Source, K: Sink, R: Rack>(
 
 /// Serves lines to the end of the input or the first line that is refused. The next one has the number `from`, and before it stood so
 /// many bytes.
-pub fn serve_lines<S: Source, K: Sink, R: Rack>(
+pub fn serve_lines<S: Source, K: Sink, R: Disks>(
     alloc: Global,
     input: &mut Input,
     source: &mut S,

@@ -7,6 +7,7 @@ ghost use Rattle.dg_model.specs.Causes.{Rose};
 ghost use Rattle.dg_model.specs.Shapes.{IsShape};
 ghost use Rattle.dg_model.specs.declared.replies.Reply.{Reply};
 ghost use Rattle.dg_run.specs.Arrays.{AllAnswered, AnsweredTo, ArrayCut, ArrayRanOut, ArrayReplayed, ArrayStopped, IsOfReplay};
+ghost use Rattle.dg_run.specs.Bases.{HasNoDisks};
 ghost use Rattle.dg_run.specs.Calls.{facts_of};
 ghost use Rattle.dg_run.specs.Endings.{LinesBrokeOff};
 ghost use Rattle.dg_run.specs.Ends.{EndsReplay};
@@ -27,7 +28,7 @@ use crate::input::Input;
 use crate::lines::{BUDGET, LinesEnd, serve_lines};
 use crate::serve::send;
 use crate::top::Status;
-use dg_io::{Rack, Sink, Source};
+use dg_io::{Disks, PlainRack, Rack, Sink, Source};
 use dg_model::{NoMemory, Reply, Shape};
 use dg_stop::StopRack;
 use dg_text::{BadLine, write_refusal};
@@ -76,7 +77,7 @@ pub fn refuse<K: Sink>(sink: &mut K, number: u64, kind: BadLine) -> Status
 }
 
 /// Answers the first line, which had so many bytes and made the array, and serves the lines behind it.
-fn serve_array<S: Source, K: Sink, R: Rack>(
+fn serve_array<S: Source, K: Sink, R: Disks>(
     alloc: Global,
     input: &mut Input,
     source: &mut S,
@@ -123,7 +124,7 @@ fn serve_array<S: Source, K: Sink, R: Rack>(
 }
 
 /// Makes the array of the first line, which had so many bytes, and serves the lines behind it.
-fn replay_array<S: Source, K: Sink, R: Rack + Drop>(
+fn replay_array<S: Source, K: Sink, R: Disks + Drop>(
     alloc: Global,
     input: &mut Input,
     source: &mut S,
@@ -132,6 +133,7 @@ fn replay_array<S: Source, K: Sink, R: Rack + Drop>(
     shape: Shape,
     first: u64,
 ) -> Result<Ended<R>, NoMemory>
+    requires pairs { HasNoDisks R.Rack }
     requires shape { IsShape shape }
     requires unused { IsUnused shape stop }
     requires keeps { KeepsFirst R.Rack stop }
@@ -217,8 +219,12 @@ fn replay<S: Source, K: Sink, R: Rack + Drop>(
     let mut input = Input::new(alloc)?;
     match take_event(alloc, &mut input, source, None, BUDGET) {
         Ok(Taken::Event(make, bytes)) => {
-            let Start { stop, shape } = first_rack(alloc, rack, make)?;
-            replay_array(alloc, &mut input, source, sink, stop, shape, bytes)
+            let Start { stop, shape } = first_rack(alloc, PlainRack { rack }, make)?;
+            let ended = replay_array(alloc, &mut input, source, sink, stop, shape, bytes)?;
+            Ok(Ended {
+                rack: ended.rack.rack,
+                status: ended.status,
+            })
         }
         Ok(Taken::End) => Ok(Ended {
             rack,

@@ -4,6 +4,7 @@ ghost use Rattle.dg_volume.specs.Audits.{audit_reply};
 ghost use Rattle.dg_volume.specs.Copies.{any_diffuse_reply};
 ghost use Rattle.dg_run.specs.Regroups.{regroup_reply};
 ghost use Rattle.dg_volume.specs.Commits.{checkpoint_reply};
+ghost use Rattle.dg_volume.specs.Disks.{drop_disk_reply, mend_disk_reply};
 ghost use Rattle.dg_volume.specs.Refills.{rebuild_reply, replace_reply};
 ghost use Rattle.dg_volume.specs.Replies.{any_home_reply, fail_reply, fault_reply, home_reply as settled_home_reply, who_reply};
 ghost use Rattle.dg_volume.specs.Settles.{settle_reply, tend_reply};
@@ -11,9 +12,9 @@ ghost use Rattle.dg_volume.specs.Writes.{write_reply};
 
 use dg_model::Reply;
 use dg_volume::{
-    AnyDiffuse, AnyHome, AuditAnswer, CheckpointAnswer, DiffuseAnswer, FailAnswer, HomeAnswer,
-    LookFault, RebuildAnswer, RegroupAnswer, ReplaceAnswer, TendRun, Unsettled, WhoAnswer,
-    WriteAnswer,
+    AnyDiffuse, AnyHome, AuditAnswer, CheckpointAnswer, DiffuseAnswer, DropDiskAnswer, FailAnswer,
+    HomeAnswer, LookFault, MendDiskAnswer, RebuildAnswer, RegroupAnswer, ReplaceAnswer, TendRun,
+    Unsettled, WhoAnswer, WriteAnswer,
 };
 use ufs_model::PathRefusal;
 
@@ -49,6 +50,32 @@ pub fn replace_reply(boundary: u32, answer: ReplaceAnswer) -> Reply
         ReplaceAnswer::Lost => Reply::Lost(boundary),
         ReplaceAnswer::NotOut => Reply::NotOut,
         ReplaceAnswer::Failed => Reply::Failed,
+    }
+}
+
+/// A disk went out.
+pub fn drop_reply(answer: DropDiskAnswer) -> Reply
+    ensures { result ≡ drop_disk_reply answer }
+{
+    match answer {
+        DropDiskAnswer::Plain => Reply::NotParity,
+        DropDiskAnswer::Range => Reply::Range,
+        DropDiskAnswer::Already => Reply::Already,
+        DropDiskAnswer::Dropped => Reply::Done,
+    }
+}
+
+/// A disk of this boundary came back.
+pub fn mend_reply(boundary: u32, answer: MendDiskAnswer) -> Reply
+    ensures { result ≡ mend_disk_reply boundary answer }
+{
+    match answer {
+        MendDiskAnswer::Plain => Reply::NotParity,
+        MendDiskAnswer::Range => Reply::Range,
+        MendDiskAnswer::Lost => Reply::Lost(boundary),
+        MendDiskAnswer::NotOut => Reply::NotOut,
+        MendDiskAnswer::Failed => Reply::Failed,
+        MendDiskAnswer::Mended(stripes) => Reply::Mended(stripes),
     }
 }
 

@@ -5,6 +5,7 @@ ghost use Rattle.dg_io.specs.SourceReads.{LeavesSource};
 ghost use Rattle.dg_io.specs.Told.{Told, Took, TookPart};
 ghost use Rattle.dg_model.specs.Causes.{Rose};
 ghost use Rattle.dg_run.specs.Arrays.{IsOfReplay};
+ghost use Rattle.dg_run.specs.Bases.{HasNoDisks};
 ghost use Rattle.dg_run.specs.Calls.{facts_of};
 ghost use Rattle.dg_run.specs.Endings.{LinesBrokeOff, LinesCut, LinesRanOut};
 ghost use Rattle.dg_run.specs.Inputs.{ahead};
@@ -20,7 +21,7 @@ use crate::input::Input;
 use crate::lines::{LinesEnd, serve_lines};
 use crate::replays::{Ended, refuse, status_of};
 use crate::top::Status;
-use dg_io::{Rack, Sink, Source, write_all};
+use dg_io::{Disks, PlainRack, Rack, Sink, Source, write_all};
 use dg_model::NoMemory;
 use dg_regroup::extra_bytes_are_unique;
 use dg_volume::{OpenAnswer, open_kept};
@@ -57,7 +58,7 @@ pub fn tell_unclean<K: Sink>(sink: &mut K) -> Status
 }
 
 /// Serves the lines of the input, from the first one on, on an array that was opened.
-fn resume_array<S: Source, K: Sink, R: Rack>(
+fn resume_array<S: Source, K: Sink, R: Disks>(
     alloc: Global,
     input: &mut Input,
     source: &mut S,
@@ -100,12 +101,13 @@ fn resume_array<S: Source, K: Sink, R: Rack>(
 }
 
 /// A trace on the array that was saved on a rack, which is handed in, and given back but for want of memory.
-fn resume<S: Source, K: Sink, R: Rack + Drop>(
+fn resume<S: Source, K: Sink, R: Disks + Drop>(
     alloc: Global,
     source: &mut S,
     sink: &mut K,
     rack: R,
 ) -> Result<Ended<R>, NoMemory>
+    requires pairs { HasNoDisks R.Rack }
     ensures name { IfOk result (λ end. R.name end.rack ≡ R.name rack) }
     ensures ends { IfOk result (λ end. EndsResumed (R.steady rack) (R.tells end.rack)
         (facts_of S.Source K.Sink R.Rack source.old source.new sink.old sink.new rack end.rack) end.status) }
@@ -141,6 +143,31 @@ fn resume<S: Source, K: Sink, R: Rack + Drop>(
     }
 }
 
+/// The same over any rack, as one without disks.
+fn resume_plain<S: Source, K: Sink, R: Rack + Drop>(
+    alloc: Global,
+    source: &mut S,
+    sink: &mut K,
+    rack: R,
+) -> Result<Ended<R>, NoMemory>
+    ensures name { IfOk result (λ end. R.name end.rack ≡ R.name rack) }
+    ensures ends { IfOk result (λ end. EndsResumed (R.steady rack) (R.tells end.rack)
+        (facts_of S.Source K.Sink R.Rack source.old source.new sink.old sink.new rack end.rack) end.status) }
+    ensures none { OnErr result ((source.new ≡ source.old) × (sink.new ≡ sink.old)) }
+    ensures read { IfOk result (λ end. end.status ≡ Status.ReadFault → Rose (S.faults source.old) (S.faults source.new)) }
+    ensures write { IfOk result (λ end. end.status ≡ Status.WriteFault → Rose (K.faults sink.old) (K.faults sink.new)) }
+    ensures source_kept { IfOk result (λ end. (end.status ≡ Status.ReadFault → ⊥) → S.faults source.new ≡ S.faults source.old) }
+    ensures sink_kept { IfOk result (λ end. (end.status ≡ Status.WriteFault → ⊥) → K.faults sink.new ≡ K.faults sink.old) }
+    ensures lines { IfOk result (λ end. (end.status ≡ Status.WriteFault → ⊥) → LeavesLines 255 K.whole K.calls K.taken sink.old sink.new) }
+    ensures reads { LeavesSource S.calls S.left 1 source.old source.new }
+{
+    let ended = resume(alloc, source, sink, PlainRack { rack })?;
+    Ok(Ended {
+        rack: ended.rack.rack,
+        status: ended.status,
+    })
+}
+
 /// Does the trace in the source on the array that was saved on the members of the rack.
 pub fn serve_resume<S: Source, K: Sink, R: Rack>(
     alloc: Global,
@@ -156,7 +183,7 @@ pub fn serve_resume<S: Source, K: Sink, R: Rack>(
     ensures lines { (result ≡ Status.WriteFault → ⊥) → LeavesLines 255 K.whole K.calls K.taken sink.old sink.new }
     ensures reads { LeavesSource S.calls S.left 1 source.old source.new }
 {
-    match resume(alloc, source, sink, &mut *rack) {
+    match resume_plain(alloc, source, sink, &mut *rack) {
         Ok(end) => end.status,
         Err(_) => Status::NoMemory,
     }

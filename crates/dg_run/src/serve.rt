@@ -6,12 +6,13 @@ ghost use Rattle.dg_text.specs.Lines.{IsInPlace};
 ghost use Rattle.dg_text.specs.Replies.{reply_line};
 ghost use Rattle.dg_io.specs.Told.{Told, Took, TookPart};
 ghost use Rattle.dg_run.specs.Histories.{Continues, EventAnswered, EventCut, EventWanted, IsReady};
-ghost use Rattle.dg_run.specs.Plain.{IsOfPairs, is_plain};
+ghost use Rattle.dg_run.specs.Plain.{IsOfRoom, is_plain};
 ghost use Rattle.dg_run.specs.Steps.{Answered, AnsweredPart, GoesKept, GoesOn, GoesReplaced, IsSound, ReplacedBy, SavedBy, StepsTo, rack_of, shape_of};
 
 use crate::arrays::{Array, Running};
 use crate::blocks::{fill_block, trimmed};
 use crate::cats::serve_cat;
+use crate::disks::{serve_drop, serve_mend};
 use crate::events::Fault;
 use crate::listings::serve_ls;
 use crate::lost_files::serve_lost;
@@ -22,7 +23,7 @@ use crate::replies::{
     replace_reply, settle_reply, tend_reply, who_reply, write_reply,
 };
 use crate::trees::serve_tree;
-use dg_io::{Checkpoint, Rack, Sink};
+use dg_io::{Checkpoint, Disks, Rack, Sink};
 use dg_model::{Event, NoMemory, Reply};
 use dg_text::{write_data, write_reply as write_line};
 use dg_volume::ReadAnswer;
@@ -91,7 +92,7 @@ fn save<R: Checkpoint>(alloc: Global, array: &mut Array<R>) -> Result<Reply, NoM
     requires sound { IsSound R.Rack array.old }
     ensures goes { GoesKept R.Rack R.room_of R.commits array.old array.new }
     ensures steps { IfOk result (λ reply. StepsTo R.Rack array.old Event.Save reply array.new) }
-    ensures of_pairs { IfOk result (λ reply. IsOfPairs array.old Event.Save reply (R.room_of (rack_of array.old))) }
+    ensures of_room { IfOk result (λ reply. IsOfRoom array.old Event.Save reply (R.room_of (rack_of array.old))) }
     ensures saved { IfOk result (λ reply. SavedBy R.Rack R.room_of R.commits reply array.old array.new) }
 {
     let answer = array.volume.checkpoint(alloc, &array.hot)?;
@@ -122,7 +123,7 @@ fn reply_to<R: Rack>(
     requires plain { is_plain event.now ≡ true }
     ensures goes { GoesOn R.Rack array.old array.new }
     ensures steps { IfOk result (λ reply. StepsTo R.Rack array.old event.now reply array.new) }
-    ensures of_pairs { IfOk result (λ reply. (room : Option ℕ) → IsOfPairs array.old event.now reply room) }
+    ensures of_room { IfOk result (λ reply. (room : Option ℕ) → IsOfRoom array.old event.now reply room) }
 {
     match event {
         Event::Write(b, bytes) => {
@@ -137,7 +138,6 @@ fn reply_to<R: Rack>(
         Event::Who(b) => Ok(who_reply(array.volume.who(*b))),
         Event::Home(path) => Ok(home_reply(array.volume.home(path.as_slice()))),
         Event::Audit => Ok(audit_reply(array.volume.audit(alloc)?)),
-        Event::DropDisk(_, _) | Event::MendDisk(_, _) => Ok(Reply::NotParity),
         Event::Array(_)
         | Event::Safe(_)
         | Event::Parity(_, _)
@@ -149,7 +149,9 @@ fn reply_to<R: Rack>(
         | Event::Tree
         | Event::Save
         | Event::Regroup
-        | Event::LostFiles => unreachable!(),
+        | Event::LostFiles
+        | Event::DropDisk(_, _)
+        | Event::MendDisk(_, _) => unreachable!(),
     }
 }
 
@@ -227,7 +229,7 @@ fn serve_plain<R: Rack, K: Sink>(
 }
 
 /// Does an event that is in its place after the array, and writes its reply.
-pub fn serve<R: Rack, K: Sink>(
+pub fn serve<R: Disks, K: Sink>(
     alloc: Global,
     array: &mut Running<R>,
     sink: &mut K,
@@ -256,6 +258,8 @@ pub fn serve<R: Rack, K: Sink>(
         Event::Save => serve_save(alloc, array, sink),
         Event::Replace(s, j) => serve_replace(array, sink, *s, *j),
         Event::Regroup => serve_regroup(alloc, array, sink),
+        Event::DropDisk(s, j) => serve_drop(array, sink, *s, *j),
+        Event::MendDisk(s, j) => serve_mend(array, sink, *s, *j),
         Event::LostFiles => serve_lost(alloc, array, sink),
         plain => serve_plain(alloc, array, sink, plain, block),
     }

@@ -186,7 +186,6 @@ module _ {S T E : Type 0} (rack : Ghosts S) (q : ℕ) (result : Result T E) (m n
     tells = λ r told. some_seen m r (rack.bytes a r) (leaves.tells r (seen_some n r (rack.bytes b r) told));
     told_before = after.told_before;
     rise = after.rise;
-    disks = after.disks_after;
     room = beside.room;
     known_on = ok_on result (stands_in n q ≡ true) (known_in m q ≡ true → known_in n q ≡ true) (λ at h. known at) ok;
     others_known = beside.known;

@@ -1,11 +1,13 @@
 -- A commit of a double rack, as a rack that keeps a checkpoint, and of one that is plain or double.
-use Rattle.std.proofs.Common.{◌≡◌, ◌⊎◌, ℕ, Bool, true, false, List, refl, sym, ◌∙◌, ap, arith, inl, inr}
+use Rattle.std.proofs.Common.{◌≡◌, ◌⊎◌, ℕ, Bool, true, false, List, [], refl, sym, ◌∙◌, ap, arith, inl, inr}
 use Rattle.std.specs.Prelude.{◌==◌, ◌&&◌, ◌↔◌, not, if◌then◌else◌, Option, Some, None, IsSome}
 use Rattle.std.specs.List.{Contains}
 use Rattle.std.proofs.lemmas.Bool.{false≢true}
 use Rattle.std.proofs.lemmas.Nat.Bits.{bit_at-zero}
 use Rattle.dg_io.specs.Commits.{IsNewKept, KeptAfter, LeavesCommit, fell_in, is_marked}
+use Rattle.dg_io.specs.Disks.{DiskStates, DisksFall, no_disks}
 use Rattle.dg_io.specs.Kept.{Kept}
+use Rattle.dg_io.specs.MadeLaws.{disks_same}
 use Rattle.dg_io.specs.Told.{IsSame, Told}
 use Rattle.dg_io.specs.declared.checkpoints.CommitAnswer.{CommitAnswer}
 use Rattle.dg_io.specs.declared.checkpoints.CommitAnswer.TheVariants.{Committed, Lost}
@@ -25,6 +27,10 @@ none_marked q = ap (λ (n : ℕ). n == 1) (bit_at-zero q)
 fell_all : (v s : Bool) → s ≡ false → (v && not s) ≡ v
 fell_all true s out = ap not out
 fell_all false s out = refl
+
+-- no disk is called
+fall_none : (disks : DiskStates) → DisksFall disks disks
+fall_none disks = record { rises = (disks_same disks []).rises; stays = λ s j was. was }
 
 entry_if : (b : Bool) (x : Option (List ℕ)) → ((if b then x else None) ≡ x) ⊎ (◌≡◌ {A = Option (List ℕ)} (if b then x else None) None)
 entry_if true x = inl refl
@@ -68,7 +74,7 @@ module _ {R : Type 0} (rack : Ghosts R) (keep : ℕ) (extra : List ℕ) (served 
         ap (λ (x : Bool). x && rack.stands new.rack q) (leaves.stands q ∙ ap (λ (b : Bool). if b then false else stands_in old.memory q) near)
         ∙ ap (λ (x : Bool). stands_in old.memory q && x) (leaves.behind q near);
     kept = kept;
-    disks_fall = leaves.disks;
+    disks_fall = fall_none no_disks;
     room_is = ap (λ (n : ℕ). Some n) leaves.room;
   }
 
@@ -159,9 +165,6 @@ commit_plain rack keep extra it = record {
   uncalled = λ q out. refl;
   stand_on = λ q out. refl;
   kept = λ kept keeps. absurd keeps;
-  disks_fall = record {
-    rises = record { rise = λ s j. omega arith; cause = λ s j was gone. absurd (false≢true (sym was ∙ gone)) };
-    stays = λ s j was. was;
-  };
+  disks_fall = fall_none (rack.disks it);
   room_is = refl;
 }

@@ -5,7 +5,7 @@ use Rattle.std.proofs.lemmas.Bool.{false_from_ne_true, false≢true}
 use Rattle.dg_io.specs.Kept.{Kept}
 use Rattle.dg_io.specs.MadeLaws.{each_such}
 use Rattle.dg_io.specs.MakesLaws.{makes_made}
-use Rattle.dg_io.specs.RackCalls.{Each, IsNoBlankAt, IsNotOn, RackCall}
+use Rattle.dg_io.specs.RackCalls.{Each, IsNotOn, RackCall}
 use Rattle.dg_io.specs.RackWords.{After, MadeOnly}
 use Rattle.dg_io.specs.Told.{IsSame, Told}
 use Rattle.dg_io.specs.declared.outside.Rack.{Ghosts}
@@ -118,9 +118,6 @@ module _ (served serves : List Bool) (commit top : ℕ) (m n : Memory) (is : Com
     idle_out : (q : ℕ) → stands_in m q ≡ false → flag_in served q ≡ false
     idle_out q out = false_from_ne_true (flag_in served q) (λ on. false≢true (sym out ∙ stand q on))
 
-    no_blank : (s : ℕ) → Each (IsNoBlankAt s) made.calls
-    no_blank s = each_such (IsServed served) (IsNoBlankAt s) (λ call on. subst (IsNoBlankAt s) (sym on.is.on) tt) made.calls made.each
-
     pub same_idle : (q : ℕ) → flag_in served q ≡ false → Told IsSame (rack.bytes a q) (rack.bytes b q)
     same_idle q out = after.other_bytes q (not_on q out)
 
@@ -172,7 +169,6 @@ module _ (served serves : List Bool) (commit top : ℕ) (m n : Memory) (is : Com
       alone = λ q out. alone_after rack q made.calls a b after (not_on q (idle_out q out));
       told_before = after.told_before;
       rise = after.rise;
-      disks = record { rises = after.disks_after.rises; stays = λ s j was. after.disks_after.stays s j (no_blank s) was };
       room = is.room;
       known = is.known;
     }
@@ -387,10 +383,6 @@ module _ {S : Type 0} (rack : Ghosts S) (served serves : List Bool) (m n : Memor
     alone = λ q out. alone_none rack q a;
     told_before = λ q told. told;
     rise = record { faults = λ q. omega arith; calls = omega arith; writes = omega arith };
-    disks = record {
-      rises = record { rise = λ s j. omega arith; cause = λ s j was gone. absurd (false≢true (sym was ∙ gone)) };
-      stays = λ s j was. was;
-    };
     room = is.room;
     known = is.known;
   }

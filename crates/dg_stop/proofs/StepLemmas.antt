@@ -2,10 +2,10 @@
 use Rattle.std.proofs.Common.{◌≡◌, ◌≢◌, ◌<◌, ◌≤◌, ◌↔◌, ◌⊎◌, ℕ, Bool, true, false, List, [], ◌∷◌, length, refl, sym, ◌∙◌, ap, arith, inl, inr, subst}
 use Rattle.std.specs.Prelude.{◌&&◌, Option, Some, None, IfSome, IsSome, OnErr, OnOk, Result, Ok, Err, if◌then◌else◌, slice_index}
 use Rattle.std.proofs.lemmas.Bool.{false≢true}
-use Rattle.dg_io.specs.Disks.{DiskStates, DisksAfter}
+use Rattle.dg_io.specs.Disks.{no_disks}
 use Rattle.dg_io.specs.Faults.{HasCause}
-use Rattle.dg_io.specs.MadeLaws.{each_such}
-use Rattle.dg_io.specs.RackCalls.{Each, IsNoBlank, IsNoBlankAt, IsNotAt, IsNotOn, RackCall, member_of}
+use Rattle.dg_io.specs.MadeLaws.{disks_same, each_such}
+use Rattle.dg_io.specs.RackCalls.{IsNoBlank, IsNotOn, RackCall, member_of}
 use Rattle.dg_io.specs.RackCalls.RackCall.{calls}
 use Rattle.dg_io.specs.RackWords.{After, Leaves, MadeOnly}
 use Rattle.dg_io.specs.Told.{IsSame, StillTold, Told}
@@ -37,24 +37,6 @@ view_same q r m n beside far all = rw (beside.sizes r far, beside.now r far, bes
 
 pub seen_others : (q r : ℕ) (m n : Memory) → IsBeside q m n → r ≢ q → (x y : Option (List ℕ)) → Told IsSame x y → Told IsSame (seen_in m r x) (seen_in n r y)
 seen_others q r m n beside far x y same = seen_told IsSame IsSame m n r x y (λ a b e. view_same q r m n beside far b ∙ ap (view_of m.current.items m.room r) e) same
-
--- ---- the disks
-
-disks_none : (s : DiskStates) (call : RackCall) → DisksAfter (call ∷ []) s s
-disks_none s call = record {
-  rises = record { rise = λ g j. omega arith; cause = λ g j was is. absurd (went (s.out g j) was is) };
-  stays = λ g j each was. was;
-  others = λ g each. record { out = λ j. refl; faults = λ j. refl };
-} where
-  went : (out : Bool) → out ≡ false → out ≡ true → ⊥
-  went out was is = false≢true (sym was ∙ is)
-
-disks_on : (q : ℕ) (made : List RackCall) → Each (IsOn q) made → (a b : DiskStates) → DisksAfter made a b → DisksAfter (calls q ∷ []) a b
-disks_on q made each a b after = record {
-  rises = after.rises;
-  stays = λ s j no was. after.stays s j (each_such (IsOn q) (IsNoBlankAt s) (λ call on. subst (IsNoBlankAt s) (sym on) tt) made each) was;
-  others = λ s no. after.others s (each_such (IsOn q) (IsNotAt s) (λ call on. subst (IsNotAt s) (sym on) (no.0)) made each);
-}
 
 -- ---- bytes of known members
 
@@ -196,7 +178,6 @@ module _ {S T E : Type 0} (rack : Ghosts S) (q : ℕ) (result : Result T E) (m n
     tells = λ r told. some_seen m r (rack.bytes a r) (serves.tells r (seen_some n r (rack.bytes b r) told));
     told_before = (after a b only.calls only.made).told_before;
     rise = (after a b only.calls only.made).rise;
-    disks = disks_on q only.calls only.each (rack.disks a) (rack.disks b) (after a b only.calls only.made).disks_after;
     room = beside.room;
     known_on = ok_on result (stands_in n q ≡ true) (known_in m q ≡ true → known_in n q ≡ true) (λ is h. known ∙ h) ok;
     others_known = beside.known;
@@ -235,7 +216,6 @@ module _ {S T E : Type 0} (rack : Ghosts S) (call : RackCall) (q : ℕ) (result 
     tells = λ r told. some_seen m r (rack.bytes a r) (seen_some n r (rack.bytes a r) told);
     told_before = λ r h. h;
     rise = record { faults = λ r. omega arith; calls = omega arith; writes = omega arith };
-    disks = disks_none (rack.disks a) call;
     room = beside.room;
     known_on = ok_on result (known_in n q ≡ known_in m q) (known_in m q ≡ true → known_in n q ≡ true) (λ is h. is ∙ h) knows;
     others_known = beside.known;
@@ -349,7 +329,7 @@ module _ {S T E : Type 0} (rack : Ghosts S) (call : RackCall) (q : ℕ) (on : me
       others_stand = λ r each. stand_far r (λ e. each.0 (on ∙ sym e));
       told_before = steps.told_before;
       keeps_on = λ each. keeps each.0;
-      disks_after = steps.disks;
+      disks_after = disks_same no_disks (call ∷ []);
     };
     behind = steps.rise;
     cause = λ r tells each rose. elim (same_or_not r q) [

@@ -1,7 +1,6 @@
 -- What a commit leaves of a double rack.
 use Rattle.std.specs.Prelude.{◌≡◌, ◌≢◌, ◌≤◌, ◌<◌, ◌+◌, ◌^◌, ◌⊎◌, ◌↔◌, ◌&&◌, ◌||◌, not, ℕ, Bool, true, false, List, Option, Some, None, if◌then◌else◌, slice_index}
 use Rattle.dg_io.specs.Commits.{is_marked}
-use Rattle.dg_io.specs.Disks.{DisksFall}
 use Rattle.dg_io.specs.declared.checkpoints.CommitAnswer.{CommitAnswer}
 use Rattle.dg_io.specs.declared.checkpoints.CommitAnswer.TheVariants.{Committed, Lost}
 use Rattle.dg_io.specs.Kept.{Kept}
@@ -97,7 +96,6 @@ pub record LeavesMembers {S : Type 0} (rack : Ghosts S) (served serves : List Bo
   pub alone : (q : ℕ) → stands_in memory q ≡ false → LeavesAlone rack q old new
   pub told_before : (q : ℕ) → rack.tells new q → rack.tells old q
   pub rise : CountsRise (rack.counts old) (rack.counts new)
-  pub disks : DisksFall (rack.disks old) (rack.disks new)
   pub room : later.room ≡ memory.room
   pub known : later.known ≡ memory.known
 
@@ -132,6 +130,7 @@ double_rack rack = record {
   keeps = double_keeps rack;
   disks = double_disks rack;
   made = DoubleMade rack;
+  handles = λ old s j new. ⊥;
 }
 
 -- what a commit may leave of it, beside what it means as a rack

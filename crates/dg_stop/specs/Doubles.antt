@@ -1,6 +1,6 @@
 -- What a rack that keeps two places for each page holds, and what it means as a rack. The rules are this project's own.
-use Rattle.std.specs.Prelude.{◌≡◌, ◌≢◌, ◌≤◌, ◌<◌, ◌^◌, ◌⊎◌, ◌↔◌, ◌&&◌, ℕ, Bool, true, false, List, [], ◌∷◌, Option, Some, None, IsSome, OnOk, Result, length, replicate, slice_get, slice_index}
-use Rattle.dg_io.specs.Disks.{DiskStates, DisksAfter}
+use Rattle.std.specs.Prelude.{◌≡◌, ◌≢◌, ◌≤◌, ◌<◌, ◌^◌, ◌⊎◌, ◌↔◌, ◌&&◌, ℕ, Bool, true, false, List, [], Option, Some, None, IsSome, OnOk, Result, length, replicate, slice_get, slice_index}
+use Rattle.dg_io.specs.Disks.{DiskStates, no_disks}
 use Rattle.dg_io.specs.Kept.{HasAnother, IsNothing, Kept, without}
 use Rattle.dg_io.specs.RackCalls.{Each, IsNotOn, RackCall, blanks, calls, extends, looks}
 use Rattle.dg_io.specs.RackWords.{After}
@@ -158,8 +158,9 @@ double_steady rack it = ⊥
 abbrev pub double_tells : {R : Type 0} → Ghosts R → Double R → ℕ → Type 0
 double_tells rack it q = rack.tells it.rack q
 
+-- it has no disks: an array that keeps a checkpoint stands on pairs
 abbrev pub double_disks : {R : Type 0} → Ghosts R → Double R → DiskStates
-double_disks rack it = rack.disks it.rack
+double_disks rack it = no_disks
 
 -- what is known of the headers of the known members, where all bytes are told
 pub record GuardsAll (memory : Memory) (all : ℕ → List ℕ) : Type 0 where
@@ -196,6 +197,7 @@ double_words rack = record {
   keeps = double_keeps rack;
   disks = double_disks rack;
   made = λ old made new. Unit {0};
+  handles = λ old s j new. ⊥;
 }
 
 -- a call that neither looks for member q, nor makes it anew, nor extends it
@@ -265,7 +267,6 @@ pub record Steps {S T E : Type 0} (rack : Ghosts S) (call : RackCall) (q : ℕ) 
   pub tells : (r : ℕ) → IsSome (seen_in later r (rack.bytes new r)) → IsSome (seen_in memory r (rack.bytes old r))
   pub told_before : (r : ℕ) → rack.tells new r → rack.tells old r
   pub rise : CountsRise (rack.counts old) (rack.counts new)
-  pub disks : DisksAfter (call ∷ []) (rack.disks old) (rack.disks new)
   pub room : later.room ≡ memory.room
   -- where it was done the member stays known
   pub known_on : OnOk result (known_in memory q ≡ true → known_in later q ≡ true)

@@ -1,13 +1,17 @@
 -- Calls of a rack that is plain or double leave what each of them leaves.
-use Rattle.std.specs.Prelude.{◌≡◌, ◌++◌, ℕ, Bool, true, List, [], Option, Result, IsSome}
-use Rattle.std.proofs.Common.{◌⊎◌, inl, inr}
+use Rattle.std.specs.Prelude.{◌≡◌, ◌++◌, ◌+◌, ◌*◌, ℕ, Bool, true, false, List, [], Option, Result, IfSome, IsSome}
+use Rattle.std.proofs.Common.{◌⊎◌, inl, inr, refl, arith}
+use Rattle.std.proofs.lemmas.Bool.{false≢true}
+use Rattle.dg_io.specs.DiskAnswers.{HandlesAs, LeavesMembers, OneDisk, is_group_lost}
+use Rattle.dg_io.specs.Disks.{DiskStates}
 use Rattle.dg_io.specs.Kept.{HasAnother, IsNothing, Kept, KeepsRest}
+use Rattle.dg_io.specs.MadeLaws.{disks_same, same_told}
 use Rattle.dg_io.specs.RackCalls.{RackCall}
 use Rattle.dg_io.specs.RackWords.{After, Leaves}
 use Rattle.dg_io.specs.declared.outside.Rack.{Ghosts}
 use Rattle.dg_stop.specs.DoubleLaws.{double_both, double_none, double_tells_told, double_told}
 use Rattle.dg_stop.specs.Doubles.{Double, DoubleMade, double_keeps, double_stands, double_words}
-use Rattle.dg_stop.specs.StopRacks.{StopMade, bytes_by, made_by, stands_by, stop_keeps, stop_stands, stop_words, tells_by}
+use Rattle.dg_stop.specs.StopRacks.{StopHandles, StopMade, bytes_by, disks_by, handles_by, made_by, stands_by, stop_bytes, stop_keeps, stop_stands, stop_words, tells_by}
 use Rattle.dg_stop.specs.declared.stop_racks.StopRack.{StopRack}
 use Rattle.dg_stop.specs.declared.stop_racks.StopRack.TheVariants.{Plain, Doubled}
 
@@ -122,3 +126,61 @@ pub stop_told : {R : Type 0} (bytes : R → ℕ → Option (List ℕ)) (stands :
     → (s : StopRack R) (q : ℕ) → tells_by tells s q → stands_by stands s q ≡ true → IsSome (bytes_by bytes s q)
 stop_told bytes stands tells law (Plain s) q told stand = law s q told stand
 stop_told bytes stands tells law (Doubled s) q told stand = double_told bytes stands tells law s q told stand
+
+-- ---- groups of disks
+
+module _ {R : Type 0} (disks : R → DiskStates) (stands : R → ℕ → Bool) where
+  -- no second member stands of a rack of groups
+  pub stop_single : ((s : R) (x : ℕ) → IsSome (disks s).width → stands s (2 * x + 1) ≡ false)
+      → (s : StopRack R) (x : ℕ) → IsSome (disks_by disks s).width → stands_by stands s (2 * x + 1) ≡ false
+  stop_single law (Plain s) x some = law s x some
+  stop_single law (Doubled s) x some = absurd (false≢true some)
+
+  -- and none of a group of which two disks are out
+  pub stop_lost : ((s : R) (x : ℕ) → IfSome (disks s).width (λ n. is_group_lost n (disks s).out x ≡ true → stands s (2 * x) ≡ false))
+      → (s : StopRack R) (x : ℕ) → IfSome (disks_by disks s).width (λ n. is_group_lost n (disks_by disks s).out x ≡ true → stands_by stands s (2 * x) ≡ false)
+  stop_lost law (Plain s) x = law s x
+  stop_lost law (Doubled s) x = tt
+
+module _ {R : Type 0} (rack : Ghosts R) where
+  -- what a call on a disk leaves of the rack behind
+  pub plain_members : (s : ℕ) (a b : R) → LeavesMembers rack s a b → LeavesMembers (stop_words rack) s (Plain a) (Plain b)
+  plain_members s a b leaves = record {
+    same_rack = leaves.same_rack;
+    steady_on = leaves.steady_on;
+    counts_stay = leaves.counts_stay;
+    others_stand = leaves.others_stand;
+    stands_on = leaves.stands_on;
+    same = leaves.same;
+    told_before = leaves.told_before;
+    keeps_on = λ kept h. h;
+  }
+
+  handled_as : ((a b : R) (s j : ℕ) → rack.handles a s j b → HandlesAs rack s j a b) → (a b : StopRack R) (s j : ℕ) → handles_by rack a s j b → HandlesAs (stop_words rack) s j a b
+  handled_as law (Plain a) (Plain b) s j h = let is = law a b s j h in record { one = is.one; leaves = plain_members s a b is.leaves }
+  handled_as law (Plain a) (Doubled b) s j h = absurd h
+  handled_as law (Doubled a) b s j h = absurd h
+
+  pub stop_handled : ((a b : R) (s j : ℕ) → rack.handles a s j b → HandlesAs rack s j a b) → (a b : StopRack R) (s j : ℕ) → StopHandles rack a s j b → HandlesAs (stop_words rack) s j a b
+  stop_handled law a b s j h = handled_as law a b s j h.by
+
+  -- a double one is as it was
+  pub doubled_members : (s : ℕ) (it : Double R) → LeavesMembers (stop_words rack) s (Doubled it) (Doubled it)
+  doubled_members s it = record {
+    same_rack = refl;
+    steady_on = (λ h. h, λ h. h);
+    counts_stay = refl;
+    others_stand = λ q differ. refl;
+    stands_on = λ served. refl;
+    same = λ q. same_told (stop_bytes rack (Doubled it) q);
+    told_before = λ q h. h;
+    keeps_on = λ kept h. h;
+  }
+
+pub no_disk_called : (s j : ℕ) (disks : DiskStates) → OneDisk s j disks disks
+no_disk_called s j disks = record {
+  same_groups = record { width = refl; count = refl };
+  rise = λ t i. omega arith;
+  cause = λ t i differ. (disks_same disks []).rises.cause t i;
+  stays = λ t i differ was. was;
+}

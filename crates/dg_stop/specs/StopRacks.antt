@@ -1,12 +1,12 @@
 -- What a rack over a rack means that is plain, or keeps two places for each page. A plain one is the rack behind, and keeps no checkpoint.
 use Rattle.std.specs.Prelude.{◌≡◌, ◌&&◌, ℕ, Bool, true, false, List, Option, None}
-use Rattle.dg_io.specs.Disks.{DiskStates}
+use Rattle.dg_io.specs.Disks.{DiskStates, no_disks}
 use Rattle.dg_io.specs.Kept.{Kept}
 use Rattle.dg_io.specs.RackCalls.{RackCall}
 use Rattle.dg_io.specs.declared.outside.Rack.{Ghosts}
 use Rattle.dg_model.specs.States.{Counts}
 use Rattle.dg_stop.specs.DoubleCommits.{CommitsBehind, double_room}
-use Rattle.dg_stop.specs.Doubles.{DoubleMade, HasNoCalls, IsBlank, double_counts, double_disks, double_keeps, double_name, double_steady, known_in, seen_in, stands_in}
+use Rattle.dg_stop.specs.Doubles.{DoubleMade, HasNoCalls, IsBlank, double_counts, double_keeps, double_name, double_steady, known_in, seen_in, stands_in}
 use Rattle.dg_stop.specs.declared.stop_racks.StopRack.{StopRack}
 use Rattle.dg_stop.specs.declared.stop_racks.StopRack.TheVariants.{Plain, Doubled}
 
@@ -48,9 +48,13 @@ abbrev pub stop_keeps : {R : Type 0} → Ghosts R → StopRack R → Option Kept
 stop_keeps rack (Plain it) kept = ⊥
 stop_keeps rack (Doubled it) kept = double_keeps rack it kept
 
+-- a plain one has the disks of the rack behind, and a double one has none
+abbrev pub disks_by : {R : Type 0} → (R → DiskStates) → StopRack R → DiskStates
+disks_by disks (Plain it) = disks it
+disks_by disks (Doubled it) = no_disks
+
 abbrev pub stop_disks : {R : Type 0} → Ghosts R → StopRack R → DiskStates
-stop_disks rack (Plain it) = rack.disks it
-stop_disks rack (Doubled it) = double_disks rack it
+stop_disks rack = disks_by rack.disks
 
 -- a plain one has no room for extra bytes
 abbrev pub stop_room : {R : Type 0} → StopRack R → Option ℕ
@@ -91,6 +95,15 @@ commits_by rack (Doubled old) (Doubled new) = CommitsBehind rack old new
 pub record StopCommits {R : Type 0} (rack : Ghosts R) (old new : StopRack R) : Type 0 where
   pub by : commits_by rack old new
 
+-- what a call on a disk may leave of it: a plain one has what the rack behind has, and a double one has no disks
+abbrev pub handles_by : {R : Type 0} → Ghosts R → StopRack R → ℕ → ℕ → StopRack R → Type 0
+handles_by rack (Plain old) s j (Plain new) = rack.handles old s j new
+handles_by rack (Plain old) s j (Doubled new) = ⊥
+handles_by rack (Doubled old) s j new = ⊥
+
+pub record StopHandles {R : Type 0} (rack : Ghosts R) (old : StopRack R) (s j : ℕ) (new : StopRack R) : Type 0 where
+  pub by : handles_by rack old s j new
+
 abbrev pub stop_words : {R : Type 0} → Ghosts R → Ghosts (StopRack R)
 stop_words rack = record {
   name = stop_name rack;
@@ -102,6 +115,7 @@ stop_words rack = record {
   keeps = stop_keeps rack;
   disks = stop_disks rack;
   made = StopMade rack;
+  handles = StopHandles rack;
 }
 
 -- it is double over this rack, and no member was ever there

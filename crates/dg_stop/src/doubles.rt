@@ -113,6 +113,8 @@ impl<R: Rack> Rack for DoubleRack<R> {
 
     ghost made = { DoubleMade R.Rack };
 
+    ghost handles = { λ a s j b. ⊥ };
+
     /// One call behind.
     fn blank(&mut self, member: u8, length: u64) -> Result<(), Failed>
         ensures ok { OnOk result (Told (IsZeros length) (double_bytes R.Rack self.old member) (double_bytes R.Rack self.new member)) }

@@ -3,7 +3,7 @@ use crate::attachments::attach;
 use crate::doubles::DoubleRack;
 use crate::phases::MEMBERS;
 use crate::readings::{is_bare, read_rack};
-use dg_io::{Checkpoint, CommitAnswer, Failed, NoMemory, Rack};
+use dg_io::{Checkpoint, CommitAnswer, Disks, DropAnswer, Failed, MendAnswer, NoMemory, Rack};
 use std::alloc::Global;
 
 /// What an opening gives.
@@ -110,7 +110,7 @@ impl<R: Rack> Rack for StopRack<R> {
     ghost use Rattle.dg_model.specs.Causes.{RoseByOne};
     ghost use Rattle.dg_stop.specs.Behind.{MostCalls};
     ghost use Rattle.dg_stop.specs.StopCalls.{behind, calls_to_look, calls_to_read, calls_to_write};
-    ghost use Rattle.dg_stop.specs.StopRacks.{StopMade, stop_bytes, stop_counts, stop_disks, stop_keeps, stop_name, stop_stands, stop_steady, stop_tells, stop_words};
+    ghost use Rattle.dg_stop.specs.StopRacks.{StopHandles, StopMade, stop_bytes, stop_counts, stop_disks, stop_keeps, stop_name, stop_stands, stop_steady, stop_tells, stop_words};
     ghost use Rattle.dg_stop.specs.StopLaws.{stop_after, stop_both, stop_none, stop_tells_told, stop_told};
 
     ghost name = { stop_name R.Rack };
@@ -130,6 +130,8 @@ impl<R: Rack> Rack for StopRack<R> {
     ghost disks = { stop_disks R.Rack };
 
     ghost made = { StopMade R.Rack };
+
+    ghost handles = { StopHandles R.Rack };
 
     /// One call behind.
     fn blank(&mut self, member: u8, length: u64) -> Result<(), Failed>
@@ -263,4 +265,36 @@ impl<R: Rack> Checkpoint for StopRack<R> {
             StopRack::Doubled(double) => double.room(),
         }
     }
+}
+
+/// A plain one has the disks of the rack behind. A double one has none: an array that keeps a checkpoint stands on pairs.
+impl<R: Disks> Disks for StopRack<R> {
+    ghost use Rattle.dg_stop.specs.StopLaws.{stop_handled, stop_lost, stop_single};
+
+    fn drop_disk(&mut self, s: u8, j: u8) -> DropAnswer {
+        match self {
+            StopRack::Plain(rack) => rack.drop_disk(s, j),
+            StopRack::Doubled(_double) => DropAnswer::Plain,
+        }
+    }
+
+    fn mend(&mut self, s: u8, j: u8) -> MendAnswer {
+        match self {
+            StopRack::Plain(rack) => rack.mend(s, j),
+            StopRack::Doubled(_double) => MendAnswer::Plain,
+        }
+    }
+
+    fn disks(&self) -> Option<u8> {
+        match self {
+            StopRack::Plain(rack) => rack.disks(),
+            StopRack::Doubled(_) => None,
+        }
+    }
+
+    ghost handled = { λ a b s j h. stop_handled _ R.handled a b s j h };
+
+    ghost single = { λ it x some. stop_single R.disks R.stands R.single it x some };
+
+    ghost lost = { λ it x. stop_lost R.disks R.stands R.lost it x };
 }

@@ -2,6 +2,7 @@ mod Bits
 mod Blocks
 mod Calls
 mod Changed
+mod DiskLaws
 mod EvictionCounts
 mod EvictionSteps
 mod LeftBlocks

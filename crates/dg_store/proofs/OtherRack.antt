@@ -3,7 +3,6 @@ use Rattle.std.proofs.Common.{◌≡◌, ◌≢◌, ◌⊎◌, inl, inr, ℕ, �
 use Rattle.std.specs.Prelude.{Option, Some, None, IfSome, IsSome}
 use Rattle.std.proofs.lemmas.Bool.{false≢true}
 use Rattle.dg_io.specs.Commits.{fell_in, is_marked, LeavesCommit}
-use Rattle.dg_io.specs.DiskAnswers.{LeavesMembers, OneDisk}
 use Rattle.dg_io.specs.Told.{Told, IsSame}
 use Rattle.dg_io.specs.declared.checkpoints.CommitAnswer.{CommitAnswer}
 use Rattle.dg_io.specs.declared.outside.Rack.{Ghosts}
@@ -13,7 +12,6 @@ use Rattle.dg_model.specs.declared.members.MemberState.TheVariants.{Out}
 use Rattle.dg_model.specs.declared.shapes.Shape.{Shape}
 use Rattle.dg_pair.specs.Boundaries.{MembersStand}
 use Rattle.dg_store.specs.Commits.{CommitLeaves}
-use Rattle.dg_store.specs.DiskCalls.{DiskLeaves}
 use Rattle.dg_store.specs.Rows.{AreLong, members_in}
 use Rattle.dg_store.specs.Slots.{KeepsSlots}
 use Rattle.dg_store.specs.Stores.{IsSound, IsWhole, KeepsBlocks}
@@ -31,12 +29,12 @@ still_holds l slot v old None same held = tt
 still_holds l slot v None (Some now) same held = absurd same
 still_holds l slot v (Some was) (Some now) same held = subst (λ (all : List ℕ). slot_of l slot all ≡ v) (sym same) held
 
-true_or_false : (b : Bool) → (b ≡ true) ⊎ (b ≡ false)
+pub true_or_false : (b : Bool) → (b ≡ true) ⊎ (b ≡ false)
 true_or_false true = inl refl
 true_or_false false = inr refl
 
 -- the bytes of each member that isn't out are as they were
-abbrev AreSame : (ℕ → MemberState) → (ℕ → Option (List ℕ)) → (ℕ → Option (List ℕ)) → Type 0
+abbrev pub AreSame : (ℕ → MemberState) → (ℕ → Option (List ℕ)) → (ℕ → Option (List ℕ)) → Type 0
 AreSame members old new = (q : ℕ) → members q ≢ Out → Told IsSame (old q) (new q)
 
 long_same : (shape : Shape) (members : ℕ → MemberState) (old new : ℕ → Option (List ℕ)) → AreSame members old new → AreLong shape members old → AreLong shape members new
@@ -48,7 +46,7 @@ slots_same l members old new same s slot v had q at served =
     still_holds l slot v (old q) (new q) (same q called) (had q at served)
 
 module _ {R : Type 0} (rack : Ghosts R) (told : (s : R) (q : ℕ) → rack.tells s q → rack.stands s q ≡ true → IsSome (rack.bytes s q)) (store : Store R) (r : R) where
-  whole_with : AreSame (members_in store.row.items) (rack.bytes store.rack) (rack.bytes r) → IsWhole rack store → IsWhole rack (record store { rack = r })
+  pub whole_with : AreSame (members_in store.row.items) (rack.bytes store.rack) (rack.bytes r) → IsWhole rack store → IsWhole rack (record store { rack = r })
   whole_with same w =
       whole_of rack (record store { rack = r }) w.table w.built.count w.built.stands
       (long_same store.map.shape (members_in store.row.items) (rack.bytes store.rack) (rack.bytes r) same w.long) w.built.block w.built.given_up
@@ -63,7 +61,7 @@ module _ {R : Type 0} (rack : Ghosts R) (told : (s : R) (q : ℕ) → rack.tells
         stand = stand;
       }) s.built.block s.built.given_up
 
-  blocks_with : AreSame (members_in store.row.items) (rack.bytes store.rack) (rack.bytes r) → KeepsBlocks rack store (record store { rack = r })
+  pub blocks_with : AreSame (members_in store.row.items) (rack.bytes store.rack) (rack.bytes r) → KeepsBlocks rack store (record store { rack = r })
   blocks_with same V st =
       stands_kept _ _ _ _ V store.map (slots_same store.map.shape.l (members_in store.row.items) (rack.bytes store.rack) (rack.bytes r) same) st
 
@@ -82,21 +80,4 @@ module _ {R : Type 0} (rack : Ghosts R) (told : (s : R) (q : ℕ) → rack.tells
       | inl named ↦ absurd (called (out q named))
       | inr unnamed ↦ leaves.stand_on q unnamed ∙ sound.stand q called
     ]) sound;
-  }
-
-  -- ---- a call on a disk
-
-  pub disk_leaves : (width : R → Option ℕ) (groups : R → ℕ) (s j : ℕ) → OneDisk s j (rack.disks store.rack) (rack.disks r) → LeavesMembers rack store.rack r
-      → width r ≡ width store.rack → groups r ≡ groups store.rack → (width store.rack ≡ None → r ≡ store.rack) → DiskLeaves rack width groups s j store (record store { rack = r })
-  disk_leaves width groups s j disks leaves width_is groups_is idle = record {
-    table = refl;
-    members = refl;
-    disks = disks;
-    leaves = leaves;
-    width_is = width_is;
-    groups_is = groups_is;
-    idle = λ none. ap (λ (x : R). record store { rack = x }) (idle none);
-    whole = whole_with (λ q called. leaves.same q);
-    sound = λ sound. sound_with (λ q called. leaves.same q) (λ q called. leaves.stand q ∙ sound.stand q called) sound;
-    blocks = blocks_with (λ q called. leaves.same q);
   }

@@ -31,7 +31,7 @@ struck s side x y old new low changed out others = record {
   ];
 }
 
-stays_or_out : (q p : ℕ) (old new : ℕ → MemberState) → IsStruck q old new → (new p ≡ old p) ⊎ (new p ≡ Out)
+pub stays_or_out : (q p : ℕ) (old new : ℕ → MemberState) → IsStruck q old new → (new p ≡ old p) ⊎ (new p ≡ Out)
 stays_or_out q p old new is = elim (cases_eq p q) [
   | inl here ↦ inr (ap new here ∙ is.out)
   | inr other ↦ elim (is.others p other) [ inl same ↦ inl same | inr gone ↦ inr gone.1 ]

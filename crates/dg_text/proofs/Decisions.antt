@@ -13,7 +13,7 @@ use Rattle.dg_text.specs.Lines.{AreBytes, block_bytes, hex_word, path_word}
 use Rattle.ufs_model.specs.Paths.{is_path}
 use Rattle.dg_text.specs.Refusals.{AreWithinLimits, Begins, IsHexWord, IsNumberWord, IsOutOfOrder, IsPathWord, Reads, count_of, makes_array, numbers_of, tail_of, word_of, words}
 use Rattle.dg_text.specs.declared.kinds.EventKind.{EventKind}
-use Rattle.dg_text.specs.declared.kinds.EventKind.TheVariants.{Array, Safe}
+use Rattle.dg_text.specs.declared.kinds.EventKind.TheVariants.{Array, Safe, Parity}
 use Rattle.dg_text.specs.declared.kinds.Tail.{Tail}
 use Rattle.dg_text.specs.declared.kinds.Tail.TheVariants.{Nothing, Bytes, Path as PathTail}
 use Rattle.dg_text.proofs.EventWords.{IsRight, all_numbers, line_spelled}
@@ -211,9 +211,16 @@ keeps_limits l n b k m =
     (λ h. (h.block, ((h.least_blocks, h.most_blocks), ((h.least_boundaries, h.most_boundaries), ((h.least_slots, h.most_slots), ((h.room, h.sites), (h.least_places, h.most_places)))))))
     (both _ _ (is_block l) (both _ _ blocks (both _ _ boundaries (both _ _ slots (both _ _ sites places)))))
 
+-- and of a group of so many disks
+groups_limits : (l n b k m d : ℕ) → Decided (KeepsLimits l n b k m × (3 ≤ d) × (d ≤ 8))
+groups_limits l n b k m d =
+    same_fact _ (KeepsLimits l n b k m × (3 ≤ d) × (d ≤ 8)) (λ h. (h.0, h.1.0, h.1.1)) (λ h. (h.0, (h.1, h.2)))
+    (both _ _ (keeps_limits l n b k m) (both (3 ≤ d) (d ≤ 8) (at_most 3 d) (at_most d 8)))
+
 within_limits : (kind : EventKind) (ns : List ℕ) → Decided (AreWithinLimits kind ns)
 within_limits Array (l ∷ n ∷ b ∷ k ∷ m ∷ []) = keeps_limits l n b k m
 within_limits Safe (l ∷ n ∷ b ∷ k ∷ m ∷ []) = keeps_limits l n b k m
+within_limits Parity (l ∷ n ∷ b ∷ k ∷ m ∷ d ∷ []) = groups_limits l n b k m d
 within_limits kind ns = inl tt
 
 -- ---- the reading

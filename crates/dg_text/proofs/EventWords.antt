@@ -7,26 +7,27 @@ use Rattle.std.proofs.lemmas.List.{length-map, take_all}
 use Rattle.std.proofs.lemmas.List.Elements.{All-nil, All-cons, All-head, All-tail, All-contains}
 use Rattle.dg_model.specs.declared.shapes.Shape.{Shape}
 use Rattle.dg_model.specs.declared.events.Event.{Event}
-use Rattle.dg_model.specs.declared.events.Event.TheVariants.{Array, Safe, Write, Read, Fail, Replace, Rebuild, Settle, Tend, Diffuse, Who, Pending, Cat, Ls, Tree, Home, Save, Audit, Regroup, LostFiles, DropDisk, MendDisk}
+use Rattle.dg_model.specs.declared.events.Event.TheVariants.{Array, Safe, Parity, Write, Read, Fail, Replace, Rebuild, Settle, Tend, Diffuse, Who, Pending, Cat, Ls, Tree, Home, Save, Audit, Regroup, LostFiles, DropDisk, MendDisk}
 use Rattle.ufs_model.specs.Paths.{is_path}
 use Rattle.dg_text.specs.Lines.{AreBytes, block_bytes, hex_word, path_word, spelling, IsInPlace}
 use Rattle.dg_text.specs.Refusals.{Begins, IsHexWord, IsNumberWord, IsOutOfOrder, IsPathWord, AreWithinLimits, count_of, makes_array, numbers_of, tail_count, tail_of, words, word_of}
 use Rattle.dg_text.specs.Texts.{IsTextOf, event_kind}
 use Rattle.dg_text.specs.declared.kinds.EventKind.{EventKind}
-use Rattle.dg_text.specs.declared.kinds.EventKind.TheVariants.{Array as KindArray, Safe as KindSafe, Write as KindWrite, Read as KindRead, Fail as KindFail, Replace as KindReplace, Rebuild as KindRebuild, Settle as KindSettle, Tend as KindTend, Diffuse as KindDiffuse, Who as KindWho, Pending as KindPending, Cat as KindCat, Ls as KindLs, Tree as KindTree, Home as KindHome, Save as KindSave, Audit as KindAudit, Regroup as KindRegroup, LostFiles as KindLostFiles, Drop as KindDrop, Mend as KindMend}
+use Rattle.dg_text.specs.declared.kinds.EventKind.TheVariants.{Array as KindArray, Safe as KindSafe, Parity as KindParity, Write as KindWrite, Read as KindRead, Fail as KindFail, Replace as KindReplace, Rebuild as KindRebuild, Settle as KindSettle, Tend as KindTend, Diffuse as KindDiffuse, Who as KindWho, Pending as KindPending, Cat as KindCat, Ls as KindLs, Tree as KindTree, Home as KindHome, Save as KindSave, Audit as KindAudit, Regroup as KindRegroup, LostFiles as KindLostFiles, Drop as KindDrop, Mend as KindMend}
 use Rattle.dg_text.specs.declared.kinds.Tail.{Tail}
 use Rattle.dg_text.specs.declared.kinds.Tail.TheVariants.{Nothing, Bytes, Path as PathTail}
 use Rattle.dg_text.proofs.Cuts.{Lacks, Lacks-from_above}
 use Rattle.dg_text.proofs.HexWords.{hex_word_nonempty, hex_word_high}
 use Rattle.dg_text.proofs.KindWords.{begins_once, kind_same, word_lacks}
 use Rattle.dg_text.proofs.LineWords.{joined, joined_words, words_cut, words_joined, words_same, words_whole}
-use Rattle.dg_text.proofs.Numbers.{HasNumbers, IsSmall, decimal_lacks, has_numbers, number_words, numbers_lack, numbers_same, shape_numbers, shape_small}
+use Rattle.dg_text.proofs.Numbers.{HasNumbers, IsSmall, decimal_lacks, has_numbers, number_words, numbers_lack, numbers_same, parity_numbers, parity_small, shape_numbers, shape_small}
 use Rattle.dg_text.proofs.PathWords.{path_none, path_word_high}
 
 -- the words behind the first
 abbrev pub later_of : Event → List (List ℕ)
 later_of (Array s) = map decimal (shape_numbers s)
 later_of (Safe s) = map decimal (shape_numbers s)
+later_of (Parity s d) = map decimal (parity_numbers s d)
 later_of (Write b bytes) = decimal b ∷ hex_word bytes ∷ []
 later_of (Read b) = decimal b ∷ []
 later_of (Fail s j) = decimal s ∷ decimal j ∷ []
@@ -47,7 +48,6 @@ later_of Regroup = []
 later_of LostFiles = []
 later_of (DropDisk s j) = decimal s ∷ decimal j ∷ []
 later_of (MendDisk s j) = decimal s ∷ decimal j ∷ []
-later_of event = []
 
 -- ---- the words of an event in its place
 
@@ -77,6 +77,7 @@ split_numbers kind n ns small =
 pub split_event : (shape : Option Shape) (event : Event) → IsInPlace shape event → words (spelling event) ≡ word_of (event_kind event) ∷ later_of event
 split_event None (Array s) h = split_numbers KindArray s.l (s.n ∷ s.b ∷ s.k ∷ s.m ∷ []) (shape_small s h)
 split_event None (Safe s) h = split_numbers KindSafe s.l (s.n ∷ s.b ∷ s.k ∷ s.m ∷ []) (shape_small s h)
+split_event None (Parity s d) h = split_numbers KindParity s.l (s.n ∷ s.b ∷ s.k ∷ s.m ∷ d ∷ []) (parity_small s d h.0 h.2)
 split_event (Some shape) (Write b bytes) h = split_two KindWrite (decimal b) (hex_word bytes) (number_lacks b h.0) (hex_lacks bytes h.2)
 split_event (Some shape) (Read b) h = split_one KindRead (decimal b) (number_lacks b h)
 split_event (Some shape) (Tend n) h = split_one KindTend (decimal n) (number_lacks n h)
@@ -175,6 +176,7 @@ right_first kind ns first tail numbers count small within =
 pub unlimited : (kind : EventKind) (ns : List ℕ) → makes_array kind ≡ false → AreWithinLimits kind ns
 unlimited KindArray ns is = absurd (cc is)
 unlimited KindSafe ns is = absurd (cc is)
+unlimited KindParity ns is = absurd (cc is)
 unlimited kind ns is = tt
 
 right_write : (shape : Shape) (b : ℕ) (bytes : List ℕ) → b < 2 ^ 32 → length bytes ≤ shape.l → AreBytes bytes → IsRight (Some shape) KindWrite (later_of (Write b bytes))
@@ -220,6 +222,7 @@ right_path shape kind path other tail none one is are =
 pub right_event : (shape : Option Shape) (event : Event) → IsInPlace shape event → IsRight shape (event_kind event) (later_of event)
 right_event None (Array s) h = right_first KindArray (shape_numbers s) refl refl refl refl (shape_small s h) h
 right_event None (Safe s) h = right_first KindSafe (shape_numbers s) refl refl refl refl (shape_small s h) h
+right_event None (Parity s d) h = right_first KindParity (parity_numbers s d) refl refl refl refl (parity_small s d h.0 h.2) h
 right_event (Some shape) (Write b bytes) h = right_write shape b bytes h.0 h.1 h.2
 right_event (Some shape) (Read b) h =
     right_numbers shape KindRead (decimal b ∷ []) refl refl refl (some_one (decimal b) (number_some b h)) (numbers_one (decimal b) (small_word b h))
@@ -283,6 +286,11 @@ shape_of : (ns : List ℕ) → length ns ≡ 5 → (s : Shape) × (ns ≡ shape_
 shape_of (l ∷ n ∷ b ∷ k ∷ m ∷ []) is = (record { l = l; n = n; b = b; k = k; m = m }, refl)
 shape_of ns is = absurd (omega arith)
 
+-- and six are those of one of groups
+groups_of : (ns : List ℕ) → length ns ≡ 6 → (s : Shape) × (d : ℕ) × (ns ≡ parity_numbers s d)
+groups_of (l ∷ n ∷ b ∷ k ∷ m ∷ d ∷ []) is = (record { l = l; n = n; b = b; k = k; m = m }, d, refl)
+groups_of ns is = absurd (omega arith)
+
 -- an event in its place has these words
 abbrev Spells : Option Shape → EventKind → List (List ℕ) → Type 0
 Spells shape kind later = (event : Event) × IsInPlace shape event × (event_kind event ≡ kind) × (later_of event ≡ later)
@@ -332,9 +340,14 @@ spelled None KindSafe later right =
     let ns = all_numbers KindSafe later refl right.count right.numbers in
     let s = shape_of ns.0 (size_of later ns.0 ns.2 5 right.count) in
     (Safe s.0, subst (AreWithinLimits KindSafe) s.1 (right.limits ns.0 ns.1 ns.2), refl, sym (ns.2 ∙ ap (map decimal) s.1))
+spelled None KindParity later right =
+    let ns = all_numbers KindParity later refl right.count right.numbers in
+    let s = groups_of ns.0 (size_of later ns.0 ns.2 6 right.count) in
+    (Parity s.0 s.1, subst (AreWithinLimits KindParity) s.2 (right.limits ns.0 ns.1 ns.2), refl, sym (ns.2 ∙ ap (map decimal) s.2))
 spelled None kind later right = absurd (right.order refl)
 spelled (Some shape) KindArray later right = absurd (right.order refl)
 spelled (Some shape) KindSafe later right = absurd (right.order refl)
+spelled (Some shape) KindParity later right = absurd (right.order refl)
 spelled (Some shape) KindWrite later right =
     let w = two_of later right.count in
     let n = number_in_first w.0 w.1 later w.2 right.numbers in
@@ -419,6 +432,7 @@ right_line shape line event place is b =
 text_of : (shape : Option Shape) (event : Event) → IsInPlace shape event → 0 < length (later_of event) → IsTextOf shape (event_kind event) (joined (later_of event))
 text_of None (Array s) h some = (s, h, refl)
 text_of None (Safe s) h some = (s, h, refl)
+text_of None (Parity s d) h some = (s, d, h, refl)
 text_of (Some shape) (Write b bytes) h some = (b, bytes, h.0, h.1, h.2, refl)
 text_of (Some shape) (Read b) h some = (b, h, refl)
 text_of (Some shape) (Tend n) h some = (n, h, refl)
@@ -458,4 +472,5 @@ text_is shape line event kind text place is split some =
 pub later_some : (event : Event) → IsInPlace None event → 0 < length (later_of event)
 later_some (Array s) h = omega arith
 later_some (Safe s) h = omega arith
+later_some (Parity s d) h = omega arith
 later_some event h = absurd h

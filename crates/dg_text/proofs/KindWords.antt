@@ -7,7 +7,7 @@ use Rattle.std.proofs.lemmas.List.Sums.{AllPass-from_list_all}
 use Rattle.std.proofs.lemmas.List.Elements.{All-weaker}
 use Rattle.dg_text.specs.Refusals.{Begins, word_of}
 use Rattle.dg_text.specs.declared.kinds.EventKind.{EventKind}
-use Rattle.dg_text.specs.declared.kinds.EventKind.TheVariants.{Array, Safe, Write, Read, Fail, Replace, Rebuild, Settle, Tend, Diffuse, Who, Pending, Cat, Ls, Tree, Home, Save, Audit, Regroup, LostFiles, Drop, Mend}
+use Rattle.dg_text.specs.declared.kinds.EventKind.TheVariants.{Array, Safe, Parity, Write, Read, Fail, Replace, Rebuild, Settle, Tend, Diffuse, Who, Pending, Cat, Ls, Tree, Home, Save, Audit, Regroup, LostFiles, Drop, Mend}
 use Rattle.dg_text.proofs.Cuts.{Lacks}
 
 -- the first and the third letter of a word tell whose it is
@@ -15,12 +15,13 @@ letters_of : List ℕ → ℕ
 letters_of word = get_or word 0 0 * 256 + get_or word 2 0
 
 kind_by : ℕ → EventKind
-kind_by k = if k == 29287 then Regroup else (if k == 27763 then LostFiles else (if k == 25711 then Drop else (if k == 28014 then Mend else (if k == 24946 then Array else (if k == 29542 then Safe else (if k == 24932 then Audit else (if k == 30569 then Write else (if k == 29281 then Read else (if k == 26217 then Fail else (if k == 29296 then Replace else (if k == 29282 then Rebuild else (if k == 29556 then Settle else (if k == 29806 then Tend else (if k == 25702 then Diffuse else (if k == 30575 then Who else (if k == 28782 then Pending else (if k == 25460 then Cat else (if k == 27648 then Ls else (if k == 29797 then Tree else (if k == 26733 then Home else (Save)))))))))))))))))))))
+kind_by k = if k == 29287 then Regroup else (if k == 27763 then LostFiles else (if k == 25711 then Drop else (if k == 28014 then Mend else (if k == 24946 then Array else (if k == 29542 then Safe else (if k == 28786 then Parity else (if k == 24932 then Audit else (if k == 30569 then Write else (if k == 29281 then Read else (if k == 26217 then Fail else (if k == 29296 then Replace else (if k == 29282 then Rebuild else (if k == 29556 then Settle else (if k == 29806 then Tend else (if k == 25702 then Diffuse else (if k == 30575 then Who else (if k == 28782 then Pending else (if k == 25460 then Cat else (if k == 27648 then Ls else (if k == 29797 then Tree else (if k == 26733 then Home else (Save))))))))))))))))))))))
 
 kind_back : (kind : EventKind) → kind_by (letters_of (word_of kind)) ≡ kind
 unfolding letters_of kind_by
 kind_back Array = refl
 kind_back Safe = refl
+kind_back Parity = refl
 kind_back Write = refl
 kind_back Read = refl
 kind_back Fail = refl
@@ -57,6 +58,7 @@ kind_same one other e = sym (kind_back one) ∙ ap (λ (word : List ℕ). kind_b
 all_high : (kind : EventKind) → list_all (λ x. ltb 32 x) (word_of kind) ≡ true
 all_high Array = refl
 all_high Safe = refl
+all_high Parity = refl
 all_high Write = refl
 all_high Read = refl
 all_high Fail = refl

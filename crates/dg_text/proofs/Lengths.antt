@@ -9,10 +9,10 @@ use Rattle.hex.specs.Hex.{lower_digits}
 use Rattle.hex.proofs.HexLemmas.{length-encode_with}
 use Rattle.dg_model.specs.declared.shapes.Shape.{Shape}
 use Rattle.dg_model.specs.declared.events.Event.{Event}
-use Rattle.dg_model.specs.declared.events.Event.TheVariants.{Array, Safe, Write, Read, Fail, Replace, Rebuild, Settle, Tend, Diffuse, Who, Pending, Cat, Ls, Tree, Home, Save, Audit, Regroup, LostFiles, DropDisk, MendDisk}
-use Rattle.dg_text.specs.Lines.{hex_word, line_of, shape_words, spelling, IsInPlace, longest}
+use Rattle.dg_model.specs.declared.events.Event.TheVariants.{Array, Safe, Parity, Write, Read, Fail, Replace, Rebuild, Settle, Tend, Diffuse, Who, Pending, Cat, Ls, Tree, Home, Save, Audit, Regroup, LostFiles, DropDisk, MendDisk}
+use Rattle.dg_text.specs.Lines.{hex_word, line_of, parity_words, shape_words, spelling, IsInPlace, longest}
 use Rattle.dg_text.proofs.LineWords.{joined}
-use Rattle.dg_text.proofs.Numbers.{IsSmall, shape_numbers, shape_small}
+use Rattle.dg_text.proofs.Numbers.{IsSmall, parity_numbers, parity_small, shape_numbers, shape_small}
 use Rattle.dg_text.proofs.PathWords.{length-path_word}
 use Rattle.ufs_model.specs.Paths.{is_path, is_path_name, names_after}
 use Rattle.std.proofs.Common.{◌&&◌, true}
@@ -54,6 +54,9 @@ line_fits None (Array s) h =
 line_fits None (Safe s) h =
     let most : length (shape_words s) ≤ 55 = numbers_short (shape_numbers s) (shape_small s h) in
     omega (arith, most, length-append (spelling (Safe s)) (codes "\n"))
+line_fits None (Parity s d) h =
+    let most : length (parity_words s d) ≤ 66 = numbers_short (parity_numbers s d) (parity_small s d h.0 h.2) in
+    omega (arith, most, length-append (spelling (Parity s d)) (codes "\n"))
 line_fits (Some shape) (Write b bytes) h =
     let number = short b h.0 in
     let word = length_hex_word bytes in

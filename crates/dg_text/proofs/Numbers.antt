@@ -7,7 +7,7 @@ use Rattle.std.specs.Str.Parse.{AllDigits, ParsesUnsigned, digits_value}
 use Rattle.std.proofs.lemmas.Bool.{cases_lt}
 use Rattle.std.proofs.lemmas.Fmt.{decimal_digit, decimal_is_IsNumeral, decimal_nonempty, decimal-digits_value, decimal_injective, first_decimal}
 use Rattle.std.proofs.lemmas.Str.Parse.{IsNumeralModel, digit_at, numerals_by_value, parse_plain, tells_digits}
-use Rattle.std.proofs.lemmas.List.Elements.{All-nil, All-cons, All-head, All-tail, All-from_get_or, All-get_or}
+use Rattle.std.proofs.lemmas.List.Elements.{All-nil, All-cons, All-head, All-tail, All-append, All-from_get_or, All-get_or}
 use Rattle.dg_model.specs.Shapes.{IsShape}
 use Rattle.dg_model.specs.declared.shapes.Shape.{Shape}
 use Rattle.dg_text.specs.Refusals.{IsNumberWord}
@@ -116,3 +116,10 @@ shape_small s h =
     (All-cons IsSmall s.n (s.b ∷ s.k ∷ s.m ∷ []) (omega arith)
     (All-cons IsSmall s.b (s.k ∷ s.m ∷ []) (omega arith)
     (All-cons IsSmall s.k (s.m ∷ []) (omega arith) (All-cons IsSmall s.m [] (omega arith) (All-nil IsSmall)))))
+
+-- and of one of groups of so many disks
+abbrev pub parity_numbers : Shape → ℕ → List ℕ
+parity_numbers s d = s.l ∷ s.n ∷ s.b ∷ s.k ∷ s.m ∷ d ∷ []
+
+pub parity_small : (s : Shape) (d : ℕ) → IsShape s → d ≤ 8 → All IsSmall (parity_numbers s d)
+parity_small s d h fits = All-append IsSmall (shape_numbers s) (d ∷ []) (shape_small s h) (All-cons IsSmall d [] (omega arith) (All-nil IsSmall))

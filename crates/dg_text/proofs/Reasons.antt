@@ -7,7 +7,7 @@ use Rattle.dg_model.specs.declared.events.Event.{Event}
 use Rattle.dg_text.specs.Lines.{block_bytes, spelling, IsInPlace}
 use Rattle.dg_text.specs.Refusals.{AreWithinLimits, Begins, BreaksLimits, Fits, IsEventOf, IsFirst, IsHexWord, IsNumberWord, IsOutOfOrder, IsPathWord, IsRefused, Reads, count_of, numbers_of, tail_of}
 use Rattle.dg_text.specs.declared.kinds.EventKind.{EventKind}
-use Rattle.dg_text.specs.declared.kinds.EventKind.TheVariants.{Array, Safe}
+use Rattle.dg_text.specs.declared.kinds.EventKind.TheVariants.{Array, Safe, Parity}
 use Rattle.dg_text.specs.declared.kinds.Tail.TheVariants.{Nothing, Bytes, Path as PathTail}
 use Rattle.dg_text.specs.declared.lines.BadLine.{BadLine}
 use Rattle.dg_text.specs.declared.lines.BadLine.TheVariants.{Long, Size, Cut, Word, Order, Form, Number, Limits, Hex, Path}
@@ -20,6 +20,7 @@ use Rattle.dg_text.proofs.Spellings.{spelling_same}
 pub no_limits : (kind : EventKind) (ns : List ℕ) → (tail_of kind ≡ Nothing → ⊥) → AreWithinLimits kind ns
 no_limits Array ns other = absurd (other refl)
 no_limits Safe ns other = absurd (other refl)
+no_limits Parity ns other = absurd (other refl)
 no_limits kind ns other = tt
 
 unbroken : (kind : EventKind) (later : List (List ℕ)) → (tail_of kind ≡ Nothing → ⊥) → BreaksLimits kind later → ⊥

@@ -7,12 +7,12 @@ use Rattle.std.proofs.lemmas.List.Elements.{All-nil, All-cons, All-head, All-tai
 use Rattle.hex.specs.Hex.{encode_lower}
 use Rattle.dg_model.specs.declared.shapes.Shape.{Shape}
 use Rattle.dg_model.specs.declared.events.Event.{Event}
-use Rattle.dg_model.specs.declared.events.Event.TheVariants.{Array, Safe, Write, Read, Fail, Replace, Rebuild, Settle, Tend, Diffuse, Who, Pending, Cat, Ls, Tree, Home, Save, Audit, Regroup, LostFiles, DropDisk, MendDisk}
+use Rattle.dg_model.specs.declared.events.Event.TheVariants.{Array, Safe, Parity, Write, Read, Fail, Replace, Rebuild, Settle, Tend, Diffuse, Who, Pending, Cat, Ls, Tree, Home, Save, Audit, Regroup, LostFiles, DropDisk, MendDisk}
 use Rattle.dg_text.specs.Lines.{AreBytes, AreInPlace, hex_word, path_word, spelled_byte, is_plain, spelling, line_of, input_of, shape_made, IsInPlace}
 use Rattle.dg_text.specs.Refusals.{numbers_of, tail_of, word_of, words}
-use Rattle.dg_text.specs.Texts.{event_kind, is_spelled}
+use Rattle.dg_text.specs.Texts.{event_kind}
 use Rattle.dg_text.specs.declared.kinds.EventKind.{EventKind}
-use Rattle.dg_text.specs.declared.kinds.EventKind.TheVariants.{Array as KindArray, Safe as KindSafe, Write as KindWrite, Read as KindRead, Fail as KindFail, Replace as KindReplace, Rebuild as KindRebuild, Settle as KindSettle, Tend as KindTend, Diffuse as KindDiffuse, Who as KindWho, Pending as KindPending, Cat as KindCat, Ls as KindLs, Tree as KindTree, Home as KindHome, Save as KindSave, Audit as KindAudit, Regroup as KindRegroup, LostFiles as KindLostFiles, Drop as KindDrop, Mend as KindMend}
+use Rattle.dg_text.specs.declared.kinds.EventKind.TheVariants.{Array as KindArray, Safe as KindSafe, Parity as KindParity, Write as KindWrite, Read as KindRead, Fail as KindFail, Replace as KindReplace, Rebuild as KindRebuild, Settle as KindSettle, Tend as KindTend, Diffuse as KindDiffuse, Who as KindWho, Pending as KindPending, Cat as KindCat, Ls as KindLs, Tree as KindTree, Home as KindHome, Save as KindSave, Audit as KindAudit, Regroup as KindRegroup, LostFiles as KindLostFiles, Drop as KindDrop, Mend as KindMend}
 use Rattle.dg_text.specs.declared.kinds.Tail.{Tail}
 use Rattle.dg_text.specs.declared.kinds.Tail.TheVariants.{Nothing, Bytes, Path as PathTail}
 use Rattle.dg_text.proofs.Cuts.{first_cut}
@@ -20,7 +20,7 @@ use Rattle.dg_text.proofs.EventWords.{later_of, split_event}
 use Rattle.dg_text.proofs.HexWords.{dash_is_none, encoded_same, one_byte}
 use Rattle.dg_text.proofs.KindWords.{kind_same}
 use Rattle.dg_text.proofs.PathWords.{path_word_none, path_word_first, path_none, front_tells, plain_exact, escaped_exact, two_digits}
-use Rattle.dg_text.proofs.Numbers.{IsSmall, shape_numbers, shape_small}
+use Rattle.dg_text.proofs.Numbers.{IsSmall, parity_numbers, parity_small, shape_numbers, shape_small}
 use Rattle.dg_text.proofs.WholeLines.{spelling_lacks}
 
 -- ---- bytes
@@ -65,6 +65,7 @@ path_same (x ∷ p) (y ∷ q) hp hq e =
 numbers_in : Event → List ℕ
 numbers_in (Array s) = shape_numbers s
 numbers_in (Safe s) = shape_numbers s
+numbers_in (Parity s d) = parity_numbers s d
 numbers_in (Write b bytes) = b ∷ []
 numbers_in (Read b) = b ∷ []
 numbers_in (Fail s j) = s ∷ j ∷ []
@@ -85,12 +86,12 @@ numbers_in Regroup = []
 numbers_in LostFiles = []
 numbers_in (DropDisk s j) = s ∷ j ∷ []
 numbers_in (MendDisk s j) = s ∷ j ∷ []
-numbers_in event = []
 
 -- its bytes
 bytes_in : Event → List ℕ
 bytes_in (Array s) = []
 bytes_in (Safe s) = []
+bytes_in (Parity s d) = []
 bytes_in (Write b bytes) = bytes
 bytes_in (Read b) = []
 bytes_in (Fail s j) = []
@@ -111,7 +112,6 @@ bytes_in Regroup = []
 bytes_in LostFiles = []
 bytes_in (DropDisk s j) = []
 bytes_in (MendDisk s j) = []
-bytes_in event = []
 
 -- the array of some numbers
 abbrev shape_by : List ℕ → Shape
@@ -121,6 +121,7 @@ shape_by ns = record { l = get_or ns 0 0; n = get_or ns 1 0; b = get_or ns 2 0; 
 made_of : EventKind → List ℕ → List ℕ → Event
 made_of KindArray ns bs = Array (shape_by ns)
 made_of KindSafe ns bs = Safe (shape_by ns)
+made_of KindParity ns bs = Parity (shape_by ns) (get_or ns 5 0)
 made_of KindWrite ns bs = Write (get_or ns 0 0) bs
 made_of KindRead ns bs = Read (get_or ns 0 0)
 made_of KindFail ns bs = Fail (get_or ns 0 0) (get_or ns 1 0)
@@ -142,31 +143,31 @@ made_of KindLostFiles ns bs = LostFiles
 made_of KindDrop ns bs = DropDisk (get_or ns 0 0) (get_or ns 1 0)
 made_of KindMend ns bs = MendDisk (get_or ns 0 0) (get_or ns 1 0)
 
-made_back : (event : Event) → is_spelled event ≡ true → made_of (event_kind event) (numbers_in event) (bytes_in event) ≡ event
+made_back : (event : Event) → made_of (event_kind event) (numbers_in event) (bytes_in event) ≡ event
 unfolding numbers_in bytes_in made_of
-made_back (Array s) is = refl
-made_back (Safe s) is = refl
-made_back (Write b bytes) is = refl
-made_back (Read b) is = refl
-made_back (Fail s j) is = refl
-made_back (Replace s j) is = refl
-made_back (Rebuild s n) is = refl
-made_back Settle is = refl
-made_back (Tend n) is = refl
-made_back Diffuse is = refl
-made_back (Who b) is = refl
-made_back Pending is = refl
-made_back (Cat path) is = refl
-made_back (Ls path) is = refl
-made_back Tree is = refl
-made_back (Home path) is = refl
-made_back Save is = refl
-made_back Audit is = refl
-made_back Regroup is = refl
-made_back LostFiles is = refl
-made_back (DropDisk s j) is = refl
-made_back (MendDisk s j) is = refl
-made_back event is = absurd (cc is)
+made_back (Array s) = refl
+made_back (Safe s) = refl
+made_back (Parity s d) = refl
+made_back (Write b bytes) = refl
+made_back (Read b) = refl
+made_back (Fail s j) = refl
+made_back (Replace s j) = refl
+made_back (Rebuild s n) = refl
+made_back Settle = refl
+made_back (Tend n) = refl
+made_back Diffuse = refl
+made_back (Who b) = refl
+made_back Pending = refl
+made_back (Cat path) = refl
+made_back (Ls path) = refl
+made_back Tree = refl
+made_back (Home path) = refl
+made_back Save = refl
+made_back Audit = refl
+made_back Regroup = refl
+made_back LostFiles = refl
+made_back (DropDisk s j) = refl
+made_back (MendDisk s j) = refl
 
 -- the word behind the numbers, if there is one
 abbrev tail_words : Tail → List ℕ → List (List ℕ)
@@ -178,6 +179,7 @@ later_is : (event : Event) → later_of event ≡ map decimal (numbers_in event)
 unfolding numbers_in bytes_in
 later_is (Array s) = refl
 later_is (Safe s) = refl
+later_is (Parity s d) = refl
 later_is (Write b bytes) = refl
 later_is (Read b) = refl
 later_is (Fail s j) = refl
@@ -198,12 +200,12 @@ later_is Regroup = refl
 later_is LostFiles = refl
 later_is (DropDisk s j) = refl
 later_is (MendDisk s j) = refl
-later_is event = refl
 
 numbers_count : (event : Event) → length (numbers_in event) ≡ numbers_of (event_kind event)
 unfolding numbers_in
 numbers_count (Array s) = refl
 numbers_count (Safe s) = refl
+numbers_count (Parity s d) = refl
 numbers_count (Write b bytes) = refl
 numbers_count (Read b) = refl
 numbers_count (Fail s j) = refl
@@ -224,7 +226,6 @@ numbers_count Regroup = refl
 numbers_count LostFiles = refl
 numbers_count (DropDisk s j) = refl
 numbers_count (MendDisk s j) = refl
-numbers_count event = refl
 
 one_small : (n : ℕ) → n < 2 ^ 32 → All IsSmall (n ∷ [])
 one_small n small = All-cons IsSmall n [] small (All-nil IsSmall)
@@ -236,6 +237,7 @@ numbers_small : (shape : Option Shape) (event : Event) → IsInPlace shape event
 unfolding numbers_in
 numbers_small None (Array s) h = shape_small s h
 numbers_small None (Safe s) h = shape_small s h
+numbers_small None (Parity s d) h = parity_small s d h.0 h.2
 numbers_small (Some shape) (Write b bytes) h = one_small b h.0
 numbers_small (Some shape) (Read b) h = one_small b h
 numbers_small (Some shape) (Tend n) h = one_small n h
@@ -268,6 +270,7 @@ tail_right : (shape : Option Shape) (event : Event) → IsInPlace shape event �
 unfolding bytes_in
 tail_right None (Array s) h = refl
 tail_right None (Safe s) h = refl
+tail_right None (Parity s d) h = refl
 tail_right (Some shape) (Write b bytes) h = h.2
 tail_right (Some shape) (Read b) h = refl
 tail_right (Some shape) (Tend n) h = refl
@@ -309,32 +312,6 @@ fronts_same (n ∷ ns) (m ∷ ms) xs ys size hn hm e =
     let rest = fronts_same ns ms xs ys (omega arith) (All-tail IsSmall n ns hn) (All-tail IsSmall m ms hm) more in
     (cc (first, rest.0), rest.1)
 
--- what stands in its place is spelled
-in_place_spelled : (shape : Option Shape) (event : Event) → IsInPlace shape event → is_spelled event ≡ true
-in_place_spelled None (Array s) h = refl
-in_place_spelled None (Safe s) h = refl
-in_place_spelled (Some shape) (Write b bytes) h = refl
-in_place_spelled (Some shape) (Read b) h = refl
-in_place_spelled (Some shape) (Fail s j) h = refl
-in_place_spelled (Some shape) (Replace s j) h = refl
-in_place_spelled (Some shape) (Rebuild s n) h = refl
-in_place_spelled (Some shape) Settle h = refl
-in_place_spelled (Some shape) (Tend n) h = refl
-in_place_spelled (Some shape) Diffuse h = refl
-in_place_spelled (Some shape) (Who b) h = refl
-in_place_spelled (Some shape) Pending h = refl
-in_place_spelled (Some shape) (Cat path) h = refl
-in_place_spelled (Some shape) (Ls path) h = refl
-in_place_spelled (Some shape) Tree h = refl
-in_place_spelled (Some shape) (Home path) h = refl
-in_place_spelled (Some shape) Save h = refl
-in_place_spelled (Some shape) Audit h = refl
-in_place_spelled (Some shape) Regroup h = refl
-in_place_spelled (Some shape) LostFiles h = refl
-in_place_spelled (Some shape) (DropDisk s j) h = refl
-in_place_spelled (Some shape) (MendDisk s j) h = refl
-in_place_spelled shape event h = absurd h
-
 -- two events in one place with one spelling are one
 pub spelling_same : (shape : Option Shape) (a b : Event) → IsInPlace shape a → IsInPlace shape b → spelling a ≡ spelling b → a ≡ b
 spelling_same shape a b h g e =
@@ -347,7 +324,7 @@ spelling_same shape a b h g e =
     let Q : EventKind → Type 0 = λ k. map decimal (numbers_in a) ++ tail_words (tail_of k) (bytes_in a) ≡ map decimal (numbers_in b) ++ tail_words (tail_of (event_kind b)) (bytes_in b) in
     let both = fronts_same (numbers_in a) (numbers_in b) _ _ size (numbers_small shape a h) (numbers_small shape b g) (subst Q kind (sym (later_is a) ∙ later ∙ later_is b)) in
     let bytes = tail_same (tail_of (event_kind b)) (bytes_in a) (bytes_in b) (subst P kind (tail_right shape a h)) (tail_right shape b g) both.1 in
-    sym (made_back a (in_place_spelled shape a h)) ∙ (λ i. made_of (kind i) (both.0 i) (bytes i)) ∙ made_back b (in_place_spelled shape b g)
+    sym (made_back a) ∙ (λ i. made_of (kind i) (both.0 i) (bytes i)) ∙ made_back b
 
 -- a text begins with the line of one event in its place
 pub line_cut : (shape : Option Shape) (a b : Event) (x y : List ℕ) → IsInPlace shape a → IsInPlace shape b → line_of a ++ x ≡ line_of b ++ y → (a ≡ b) × (x ≡ y)

@@ -8,11 +8,11 @@ use Rattle.std.proofs.lemmas.List.Elements.{All-append, All-weaker}
 use Rattle.std.proofs.lemmas.Bool.{ltb-true}
 use Rattle.dg_model.specs.declared.shapes.Shape.{Shape}
 use Rattle.dg_model.specs.declared.events.Event.{Event}
-use Rattle.dg_model.specs.declared.events.Event.TheVariants.{Array, Safe, Write, Read, Fail, Replace, Rebuild, Settle, Tend, Diffuse, Who, Pending, Cat, Ls, Tree, Home, Save, Audit, Regroup, LostFiles, DropDisk, MendDisk}
-use Rattle.dg_text.specs.Lines.{AreBytes, hex_word, path_word, shape_words, spelling, line_of, IsInPlace}
+use Rattle.dg_model.specs.declared.events.Event.TheVariants.{Array, Safe, Parity, Write, Read, Fail, Replace, Rebuild, Settle, Tend, Diffuse, Who, Pending, Cat, Ls, Tree, Home, Save, Audit, Regroup, LostFiles, DropDisk, MendDisk}
+use Rattle.dg_text.specs.Lines.{AreBytes, hex_word, parity_words, path_word, shape_words, spelling, line_of, IsInPlace}
 use Rattle.dg_text.proofs.Cuts.{Lacks, Lacks-from_not, first_cut}
 use Rattle.dg_text.proofs.LineWords.{joined as all_joined, joined_lacks}
-use Rattle.dg_text.proofs.Numbers.{IsSmall, decimal_lacks, numbers_lack, shape_numbers, shape_small}
+use Rattle.dg_text.proofs.Numbers.{IsSmall, decimal_lacks, numbers_lack, parity_numbers, parity_small, shape_numbers, shape_small}
 use Rattle.dg_text.proofs.HexWords.{IsLowerDigit, encode_is_lower}
 use Rattle.dg_text.proofs.PathWords.{path_word_high}
 
@@ -49,6 +49,7 @@ all_lack ns small = joined_lacks 10 (map decimal ns) (λ e. omega arith) (number
 pub spelling_lacks : (shape : Option Shape) (event : Event) → IsInPlace shape event → Lacks 10 (spelling event)
 spelling_lacks None (Array s) h = joined (codes "array ") (shape_words s) (plain (codes "array ") refl) (all_lack (shape_numbers s) (shape_small s h))
 spelling_lacks None (Safe s) h = joined (codes "safe ") (shape_words s) (plain (codes "safe ") refl) (all_lack (shape_numbers s) (shape_small s h))
+spelling_lacks None (Parity s d) h = joined (codes "parity ") (parity_words s d) (plain (codes "parity ") refl) (all_lack (parity_numbers s d) (parity_small s d h.0 h.2))
 spelling_lacks (Some shape) (Write b bytes) h =
     joined (codes "write ") _ (plain (codes "write ") refl)
     (joined (decimal b) _ (number b h.0) (joined (codes " ") (hex_word bytes) space (hex_lacks bytes h.2)))

@@ -8,7 +8,7 @@ use Rattle.hex.specs.Hex.{encode_lower}
 use Rattle.dg_model.specs.Shapes.{IsShape}
 use Rattle.dg_model.specs.declared.shapes.Shape.{Shape}
 use Rattle.dg_model.specs.declared.events.Event.{Event}
-use Rattle.dg_model.specs.declared.events.Event.TheVariants.{Array, Safe, Write, Read, Fail, Replace, Rebuild, Settle, Tend, Diffuse, Who, Pending, Cat, Ls, Tree, Home, Save, Audit, Regroup, LostFiles, DropDisk, MendDisk}
+use Rattle.dg_model.specs.declared.events.Event.TheVariants.{Array, Safe, Parity, Write, Read, Fail, Replace, Rebuild, Settle, Tend, Diffuse, Who, Pending, Cat, Ls, Tree, Home, Save, Audit, Regroup, LostFiles, DropDisk, MendDisk}
 use Rattle.ufs_model.specs.Paths.{is_path}
 
 -- bytes as a word
@@ -32,10 +32,15 @@ path_word path = flat_map spelled_byte path
 abbrev pub shape_words : Shape → List ℕ
 shape_words s = decimal s.l ++ (codes " " ++ (decimal s.n ++ (codes " " ++ (decimal s.b ++ (codes " " ++ (decimal s.k ++ (codes " " ++ decimal s.m)))))))
 
--- the one spelling of an event. No line spells `Parity`
+-- the numbers of an array of groups, and how many disks a group has
+abbrev pub parity_words : Shape → ℕ → List ℕ
+parity_words s d = decimal s.l ++ (codes " " ++ (decimal s.n ++ (codes " " ++ (decimal s.b ++ (codes " " ++ (decimal s.k ++ (codes " " ++ (decimal s.m ++ (codes " " ++ decimal d)))))))))
+
+-- the one spelling of an event
 abbrev pub spelling : Event → List ℕ
 spelling (Array s) = codes "array " ++ shape_words s
 spelling (Safe s) = codes "safe " ++ shape_words s
+spelling (Parity s d) = codes "parity " ++ parity_words s d
 spelling (Write b bytes) = codes "write " ++ (decimal b ++ (codes " " ++ hex_word bytes))
 spelling (Read b) = codes "read " ++ decimal b
 spelling (Fail s j) = codes "fail " ++ (decimal s ++ (codes " " ++ decimal j))
@@ -56,7 +61,6 @@ spelling Regroup = codes "regroup"
 spelling LostFiles = codes "lostfiles"
 spelling (DropDisk s j) = codes "drop " ++ (decimal s ++ (codes " " ++ decimal j))
 spelling (MendDisk s j) = codes "mend " ++ (decimal s ++ (codes " " ++ decimal j))
-spelling event = []
 
 -- its line
 abbrev pub line_of : Event → List ℕ
@@ -70,10 +74,11 @@ input_of events = flat_map line_of events
 abbrev pub AreBytes : List ℕ → Type 0
 AreBytes bytes = All (λ x. x < 256) bytes
 
--- the events that may stand first, or after an array of this shape. One that no line spells stands nowhere
+-- the events that may stand first, or after an array of this shape. A group has 3 to 8 disks
 abbrev pub IsInPlace : Option Shape → Event → Type 0
 IsInPlace None (Array s) = IsShape s
 IsInPlace None (Safe s) = IsShape s
+IsInPlace None (Parity s d) = IsShape s × (3 ≤ d) × (d ≤ 8)
 IsInPlace None event = ⊥
 IsInPlace (Some shape) (Write b bytes) = (b < 2 ^ 32) × (length bytes ≤ shape.l) × AreBytes bytes
 IsInPlace (Some shape) (Read b) = b < 2 ^ 32
@@ -101,6 +106,7 @@ IsInPlace (Some shape) event = ⊥
 abbrev pub shape_made : Event → Option Shape
 shape_made (Array s) = Some s
 shape_made (Safe s) = Some s
+shape_made (Parity s d) = Some s
 shape_made event = None
 
 -- the events of an input are in their places: the first makes an array, and the others follow it

@@ -8,7 +8,7 @@ use Rattle.dg_model.specs.declared.events.Event.{Event}
 use Rattle.ufs_model.specs.Paths.{is_path}
 use Rattle.dg_text.specs.Lines.{AreBytes, hex_word, path_word, spelling, block_bytes, IsInPlace}
 use Rattle.dg_text.specs.declared.kinds.EventKind.{EventKind}
-use Rattle.dg_text.specs.declared.kinds.EventKind.TheVariants.{Array, Safe, Write, Read, Fail, Replace, Rebuild, Settle, Tend, Diffuse, Who, Pending, Cat, Ls, Tree, Home, Save, Audit, Regroup, LostFiles, Drop, Mend}
+use Rattle.dg_text.specs.declared.kinds.EventKind.TheVariants.{Array, Safe, Parity, Write, Read, Fail, Replace, Rebuild, Settle, Tend, Diffuse, Who, Pending, Cat, Ls, Tree, Home, Save, Audit, Regroup, LostFiles, Drop, Mend}
 use Rattle.dg_text.specs.declared.kinds.Tail.{Tail}
 use Rattle.dg_text.specs.declared.kinds.Tail.TheVariants.{Nothing, Bytes, Path as PathTail}
 use Rattle.dg_text.specs.declared.lines.BadLine.{BadLine}
@@ -44,6 +44,7 @@ IsPathWord word = (path : List ℕ) × (is_path path ≡ true) × AreBytes path 
 abbrev pub word_of : EventKind → List ℕ
 word_of Array = codes "array"
 word_of Safe = codes "safe"
+word_of Parity = codes "parity"
 word_of Write = codes "write"
 word_of Read = codes "read"
 word_of Fail = codes "fail"
@@ -69,6 +70,7 @@ word_of Mend = codes "mend"
 abbrev pub numbers_of : EventKind → ℕ
 numbers_of Array = 5
 numbers_of Safe = 5
+numbers_of Parity = 6
 numbers_of Write = 1
 numbers_of Read = 1
 numbers_of Fail = 2
@@ -94,6 +96,7 @@ numbers_of Mend = 2
 abbrev pub tail_of : EventKind → Tail
 tail_of Array = Nothing
 tail_of Safe = Nothing
+tail_of Parity = Nothing
 tail_of Write = Bytes
 tail_of Read = Nothing
 tail_of Fail = Nothing
@@ -129,12 +132,14 @@ count_of kind = numbers_of kind + tail_count (tail_of kind)
 abbrev pub makes_array : EventKind → Bool
 makes_array Array = true
 makes_array Safe = true
+makes_array Parity = true
 makes_array other = false
 
 -- The numbers behind it are within their limits. Only those of an array have limits beyond that of each number
 abbrev pub AreWithinLimits : EventKind → List ℕ → Type 0
 AreWithinLimits Array (l ∷ n ∷ b ∷ k ∷ m ∷ []) = KeepsLimits l n b k m
 AreWithinLimits Safe (l ∷ n ∷ b ∷ k ∷ m ∷ []) = KeepsLimits l n b k m
+AreWithinLimits Parity (l ∷ n ∷ b ∷ k ∷ m ∷ d ∷ []) = KeepsLimits l n b k m × (3 ≤ d) × (d ≤ 8)
 AreWithinLimits kind numbers = Unit {0}
 
 -- ---- the kinds of refusals

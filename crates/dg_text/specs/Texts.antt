@@ -1,24 +1,20 @@
 -- What a line says behind its first word.
-use Rattle.std.specs.Prelude.{◌≡◌, ◌≤◌, ◌<◌, ◌^◌, Bool, true, false, ℕ, List, [], ◌∷◌, ◌++◌, length, codes, Option, Some, None}
+use Rattle.std.specs.Prelude.{◌≡◌, ◌≤◌, ◌<◌, ◌^◌, ℕ, List, [], ◌∷◌, ◌++◌, length, codes, Option, Some, None}
 use Rattle.std.specs.Fmt.{decimal}
 use Rattle.dg_model.specs.Shapes.{IsShape}
 use Rattle.dg_model.specs.declared.shapes.Shape.{Shape}
 use Rattle.dg_model.specs.declared.events.Event.{Event}
 use Rattle.dg_model.specs.declared.events.Event.TheVariants.{Array, Write, Read, Fail, Replace, Rebuild, Settle, Tend, Diffuse, Who, Pending, Cat, Ls, Tree, Home, Save, Safe, Parity, Audit, Regroup, LostFiles, DropDisk, MendDisk}
-use Rattle.dg_text.specs.Lines.{AreBytes, hex_word, path_word, shape_words, spelling, IsInPlace}
+use Rattle.dg_text.specs.Lines.{AreBytes, hex_word, parity_words, path_word, shape_words, spelling, IsInPlace}
 use Rattle.dg_text.specs.Refusals.{IsNumberWord, IsPathWord, word_of}
 use Rattle.dg_text.specs.declared.kinds.EventKind.{EventKind}
-use Rattle.dg_text.specs.declared.kinds.EventKind.TheVariants.{Array as KindArray, Safe as KindSafe, Write as KindWrite, Read as KindRead, Fail as KindFail, Replace as KindReplace, Rebuild as KindRebuild, Settle as KindSettle, Tend as KindTend, Diffuse as KindDiffuse, Who as KindWho, Pending as KindPending, Cat as KindCat, Ls as KindLs, Tree as KindTree, Home as KindHome, Save as KindSave, Audit as KindAudit, Regroup as KindRegroup, LostFiles as KindLostFiles, Drop as KindDrop, Mend as KindMend}
+use Rattle.dg_text.specs.declared.kinds.EventKind.TheVariants.{Array as KindArray, Safe as KindSafe, Parity as KindParity, Write as KindWrite, Read as KindRead, Fail as KindFail, Replace as KindReplace, Rebuild as KindRebuild, Settle as KindSettle, Tend as KindTend, Diffuse as KindDiffuse, Who as KindWho, Pending as KindPending, Cat as KindCat, Ls as KindLs, Tree as KindTree, Home as KindHome, Save as KindSave, Audit as KindAudit, Regroup as KindRegroup, LostFiles as KindLostFiles, Drop as KindDrop, Mend as KindMend}
 
--- whether a line spells the event
-abbrev pub is_spelled : Event → Bool
-is_spelled (Parity s d) = false
-is_spelled event = true
-
--- the kind of an event; of one that no line spells, any kind
+-- the kind of an event
 abbrev pub event_kind : Event → EventKind
 event_kind (Array s) = KindArray
 event_kind (Safe s) = KindSafe
+event_kind (Parity s d) = KindParity
 event_kind (Write b bytes) = KindWrite
 event_kind (Read b) = KindRead
 event_kind (Fail s j) = KindFail
@@ -39,16 +35,16 @@ event_kind Regroup = KindRegroup
 event_kind LostFiles = KindLostFiles
 event_kind (DropDisk s j) = KindDrop
 event_kind (MendDisk s j) = KindMend
-event_kind event = KindSave
 
 -- two numbers, and what stands between them
 abbrev pub two_numbers : ℕ → ℕ → List ℕ
 two_numbers m n = codes " " ++ (decimal m ++ (codes " " ++ decimal n))
 
--- what its line says behind the first word, if a line spells it
+-- what its line says behind the first word
 abbrev pub rest_of : Event → List ℕ
 rest_of (Array s) = codes " " ++ shape_words s
 rest_of (Safe s) = codes " " ++ shape_words s
+rest_of (Parity s d) = codes " " ++ parity_words s d
 rest_of (Write b bytes) = codes " " ++ (decimal b ++ (codes " " ++ hex_word bytes))
 rest_of (Read b) = codes " " ++ decimal b
 rest_of (Fail s j) = two_numbers s j
@@ -69,11 +65,14 @@ rest_of Regroup = []
 rest_of LostFiles = []
 rest_of (DropDisk s j) = two_numbers s j
 rest_of (MendDisk s j) = two_numbers s j
-rest_of event = []
 
 -- a text of the numbers of an array
 abbrev pub IsShapeText : List ℕ → Type 0
 IsShapeText text = (s : Shape) × IsShape s × (text ≡ shape_words s)
+
+-- a text of the numbers of an array of groups
+abbrev pub IsParityText : List ℕ → Type 0
+IsParityText text = (s : Shape) × (d : ℕ) × IsInPlace None (Parity s d) × (text ≡ parity_words s d)
 
 -- a text of two numbers
 abbrev pub AreTwoNumbers : List ℕ → Type 0
@@ -87,6 +86,7 @@ IsWriteText most text = (b : ℕ) × (bytes : List ℕ) × (b < 2 ^ 32) × (leng
 abbrev pub IsTextOf : Option Shape → EventKind → List ℕ → Type 0
 IsTextOf None KindArray text = IsShapeText text
 IsTextOf None KindSafe text = IsShapeText text
+IsTextOf None KindParity text = IsParityText text
 IsTextOf (Some shape) KindWrite text = IsWriteText shape.l text
 IsTextOf (Some shape) KindRead text = IsNumberWord text
 IsTextOf (Some shape) KindFail text = AreTwoNumbers text

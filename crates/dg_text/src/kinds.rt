@@ -9,6 +9,8 @@ pub enum EventKind {
     Array,
     /// `safe L N B K m`
     Safe,
+    /// `parity L N B K m n`
+    Parity,
     /// `write b HEX`
     Write,
     /// `read b`
@@ -70,6 +72,7 @@ pub fn kind_with(word: &[u8]) -> Option<EventKind>
     match word {
         b"array" => Some(EventKind::Array),
         b"safe" => Some(EventKind::Safe),
+        b"parity" => Some(EventKind::Parity),
         b"write" => Some(EventKind::Write),
         b"read" => Some(EventKind::Read),
         b"fail" => Some(EventKind::Fail),
@@ -102,6 +105,7 @@ impl EventKind {
         match self {
             EventKind::Array => b"array",
             EventKind::Safe => b"safe",
+            EventKind::Parity => b"parity",
             EventKind::Write => b"write",
             EventKind::Read => b"read",
             EventKind::Fail => b"fail",
@@ -131,6 +135,7 @@ impl EventKind {
     {
         match self {
             EventKind::Array | EventKind::Safe => 5,
+            EventKind::Parity => 6,
             EventKind::Fail
             | EventKind::Replace
             | EventKind::Rebuild
@@ -160,6 +165,7 @@ impl EventKind {
             EventKind::Cat | EventKind::Ls | EventKind::Home => Tail::Path,
             EventKind::Array
             | EventKind::Safe
+            | EventKind::Parity
             | EventKind::Read
             | EventKind::Fail
             | EventKind::Replace
@@ -184,7 +190,7 @@ impl EventKind {
         ensures { result ≡ makes_array self }
     {
         match self {
-            EventKind::Array | EventKind::Safe => true,
+            EventKind::Array | EventKind::Safe | EventKind::Parity => true,
             _ => false,
         }
     }

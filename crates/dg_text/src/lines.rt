@@ -3,9 +3,9 @@ ghost use Rattle.std.specs.Prelude.{◌≡◌, ◌<◌, ◌≤◌, ◌↔◌, �
 ghost use Rattle.std.specs.Fmt.{decimal};
 ghost use Rattle.std.specs.Option.{option_copied};
 ghost use Rattle.dg_model.specs.Shapes.{IsShape};
-ghost use Rattle.dg_text.specs.Lines.{shape_words, spelling, line_of, IsInPlace, longest};
+ghost use Rattle.dg_text.specs.Lines.{parity_words, shape_words, spelling, line_of, IsInPlace, longest};
 ghost use Rattle.dg_text.specs.Refusals.{IsRefused, IsEventOf, IsOutOfOrder, word_of, count_of};
-ghost use Rattle.dg_text.specs.Texts.{IsEventWith, AreTwoNumbers};
+ghost use Rattle.dg_text.specs.Texts.{IsEventWith, IsParityText, AreTwoNumbers};
 ghost use Rattle.dg_model.specs.declared.events.Event.{Event};
 ghost use Rattle.dg_model.specs.declared.shapes.Shape.{Shape};
 
@@ -100,6 +100,7 @@ fn first_event(kind: EventKind, rest: Option<&[u8]>) -> Option<Event>
     match kind {
         EventKind::Array => shape_of(text).map(Event::Array),
         EventKind::Safe => shape_of(text).map(Event::Safe),
+        EventKind::Parity => groups_of(text).map(|(shape, disks)| Event::Parity(shape, disks)),
         _ => None,
     }
 }
@@ -116,6 +117,24 @@ fn shape_of(numbers: &[u8]) -> Option<Shape>
     let (k, rest) = number_before_space(rest)?;
     let m = whole_number(rest)?;
     Shape::check(l, n, b, k, m)
+}
+
+// The shape and the number of disks of a group that six numbers spell.
+fn groups_of(numbers: &[u8]) -> Option<(Shape, u32)>
+    ensures found { IfSome result (λ r. IsInPlace None (Event.Parity r.0 r.1) × (numbers.now ≡ parity_words r.0 r.1)) }
+    ensures none { IfNone result (IsParityText numbers.now → ⊥) }
+{
+    let (l, rest) = number_before_space(numbers)?;
+    let (n, rest) = number_before_space(rest)?;
+    let (b, rest) = number_before_space(rest)?;
+    let (k, rest) = number_before_space(rest)?;
+    let (m, rest) = number_before_space(rest)?;
+    let disks = whole_number(rest)?;
+    let shape = Shape::check(l, n, b, k, m)?;
+    if disks < 3 || disks > 8 {
+        return None;
+    }
+    Some((shape, disks))
 }
 
 // The event that stands as its first word alone, if it's such an event.

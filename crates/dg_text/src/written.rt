@@ -1,8 +1,8 @@
 // The line of an event.
 ghost use Rattle.std.specs.Prelude.{◌≡◌, ◌++◌, codes, IfOk, OnOk};
 ghost use Rattle.std.specs.Fmt.{decimal};
-ghost use Rattle.dg_text.specs.Lines.{hex_word, path_word, shape_words, spelling};
-ghost use Rattle.dg_text.specs.Texts.{event_kind, is_spelled, rest_of, two_numbers};
+ghost use Rattle.dg_text.specs.Lines.{hex_word, parity_words, path_word, shape_words, spelling};
+ghost use Rattle.dg_text.specs.Texts.{event_kind, rest_of, two_numbers};
 
 use crate::kinds::EventKind;
 use crate::listings::put_byte;
@@ -11,36 +11,24 @@ use dg_model::{Event, NoMemory, Shape};
 use itoa::Buffer;
 use std::alloc::Global;
 
-/// The one line that spells an event, without its LF; of an event that no line spells, no bytes.
+/// The one line that spells an event, without its LF.
 pub fn write_event(alloc: Global, event: &Event) -> Result<Vec<u8>, NoMemory>
     ensures { IfOk result (λ line. line.items ≡ spelling event.now) }
 {
-    if !is_spelled(event) {
-        return Ok(Vec::new(alloc));
-    }
     let mut line = Vec::new(alloc);
     push(&mut line, kind_of(event).word())?;
     push_rest(&mut line, event)?;
     Ok(line)
 }
 
-// Whether a line spells an event.
-fn is_spelled(event: &Event) -> bool
-    ensures { result ≡ is_spelled event.now }
-{
-    match event {
-        Event::Parity(_, _) => false,
-        _ => true,
-    }
-}
-
-// Which event it is. Of one that no line spells, the answer is any kind.
+// Which event it is.
 fn kind_of(event: &Event) -> EventKind
     ensures { result ≡ event_kind event.now }
 {
     match event {
         Event::Array(_) => EventKind::Array,
         Event::Safe(_) => EventKind::Safe,
+        Event::Parity(_, _) => EventKind::Parity,
         Event::Write(_, _) => EventKind::Write,
         Event::Read(_) => EventKind::Read,
         Event::Fail(_, _) => EventKind::Fail,
@@ -60,7 +48,7 @@ fn kind_of(event: &Event) -> EventKind
         Event::LostFiles => EventKind::LostFiles,
         Event::DropDisk(_, _) => EventKind::Drop,
         Event::MendDisk(_, _) => EventKind::Mend,
-        _ => EventKind::Save,
+        Event::Save => EventKind::Save,
     }
 }
 
@@ -71,6 +59,7 @@ fn push_rest(line: &mut Vec<u8>, event: &Event) -> Result<(), NoMemory>
     match event {
         Event::Array(shape) => push_shape(line, shape),
         Event::Safe(shape) => push_shape(line, shape),
+        Event::Parity(shape, disks) => push_groups(line, shape, *disks),
         Event::Write(b, bytes) => push_write(line, *b, bytes.as_slice()),
         Event::Read(b) => push_number(line, *b),
         Event::Fail(s, j) => push_numbers(line, *s, *j),
@@ -123,6 +112,18 @@ fn push_shape(line: &mut Vec<u8>, shape: &Shape) -> Result<(), NoMemory>
     push_number(line, shape.b as u32)?;
     push_number(line, shape.k)?;
     push_number(line, shape.m as u32)
+}
+
+// Appends a space and the numbers of an array of groups.
+fn push_groups(line: &mut Vec<u8>, shape: &Shape, disks: u32) -> Result<(), NoMemory>
+    ensures { OnOk result (line.new.items ≡ line.old.items ++ (codes " " ++ parity_words shape.now disks)) }
+{
+    push_number(line, shape.l)?;
+    push_number(line, shape.n)?;
+    push_number(line, shape.b as u32)?;
+    push_number(line, shape.k)?;
+    push_number(line, shape.m as u32)?;
+    push_number(line, disks)
 }
 
 // Appends a block's number and its bytes, each behind a space.

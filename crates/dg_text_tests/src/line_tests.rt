@@ -23,7 +23,12 @@ fn is_written_back(alloc: Global, line: &str, shape: Option<&Shape>) -> Result<b
 #[test]
 fn each_event_is_written_back(rt: HostRuntime) -> Result<(), Fail> {
     let alloc = rt.alloc();
-    for line in ["array 1024 64 4 32 2", "safe 1024 64 4 32 2"] {
+    for line in [
+        "array 1024 64 4 32 2",
+        "safe 1024 64 4 32 2",
+        "parity 1024 64 4 32 2 3",
+        "parity 4096 1048576 16 131072 16 8",
+    ] {
         assert!(rt; is_written_back(alloc, line, None)?, "{line}");
     }
     let lines = [
@@ -76,7 +81,7 @@ fn events_of_disks_and_boundaries_are_spelled(rt: HostRuntime) -> Result<(), Fai
         )?
     );
     assert!(rt; is_written_as(alloc, &Event::Safe(SHAPE), b"safe 1024 64 4 32 2")?);
-    assert!(rt; is_written_as(alloc, &Event::Parity(SHAPE, 4), b"")?);
+    assert!(rt; is_written_as(alloc, &Event::Parity(SHAPE, 4), b"parity 1024 64 4 32 2 4")?);
     Ok(())
 }
 
@@ -117,10 +122,20 @@ fn is_read_as_safe(alloc: Global, line: &str) -> Result<bool, NoMemory> {
     }
 }
 
+// Whether a line makes an array of this shape of groups of so many disks.
+fn is_read_as_parity(alloc: Global, line: &str, disks: u32) -> Result<bool, NoMemory> {
+    match read_line(alloc, line.as_bytes(), None)? {
+        Ok(Event::Parity(shape, count)) => Ok(shape == SHAPE && count == disks),
+        _ => Ok(false),
+    }
+}
+
 #[test]
 fn lines_that_make_an_array_are_read(rt: HostRuntime) -> Result<(), Fail> {
     let alloc = rt.alloc();
     assert!(rt; is_read_as_safe(alloc, "safe 1024 64 4 32 2")?);
+    assert!(rt; is_read_as_parity(alloc, "parity 1024 64 4 32 2 3", 3)?);
+    assert!(rt; is_read_as_parity(alloc, "parity 1024 64 4 32 2 8", 8)?);
     Ok(())
 }
 
@@ -164,6 +179,56 @@ fn other_first_lines_are_refused(rt: HostRuntime) -> Result<(), Fail> {
     for line in ["safer 1024 64 4 32 2", "Safe 1024 64 4 32 2"] {
         assert_eq!(rt; fault_of(alloc, line, None)?, Some(BadLine::Word), "{line}");
     }
+    Ok(())
+}
+
+#[test]
+fn other_first_lines_of_groups_are_refused(rt: HostRuntime) -> Result<(), Fail> {
+    let alloc = rt.alloc();
+    for line in [
+        "parity 1024 64 4 32 2",
+        "parity 1024 64 4 32 2 3 ",
+        "parity",
+    ] {
+        assert_eq!(rt; fault_of(alloc, line, None)?, Some(BadLine::Form), "{line}");
+    }
+    let numbers = [
+        "parity 1024 64 4 32 2 03",
+        "parity 1024 64 4 32 2 4294967299",
+        "parity 1000 64 4 32 2 x",
+    ];
+    for line in numbers {
+        assert_eq!(rt;
+            fault_of(alloc, line, None)?,
+            Some(BadLine::Number),
+            "{line}"
+        );
+    }
+    let limits = [
+        "parity 1024 64 4 32 2 0",
+        "parity 1024 64 4 32 2 2",
+        "parity 1024 64 4 32 2 9",
+        "parity 1024 129 4 32 2 3",
+    ];
+    for line in limits {
+        assert_eq!(rt;
+            fault_of(alloc, line, None)?,
+            Some(BadLine::Limits),
+            "{line}"
+        );
+    }
+    for line in [
+        "parity 1024 64 4 32 2 3",
+        "parity 1024 64 4 32 2 9",
+        "parity x",
+    ] {
+        assert_eq!(rt;
+            fault_of(alloc, line, Some(&SHAPE))?,
+            Some(BadLine::Order),
+            "{line}"
+        );
+    }
+    assert_eq!(rt; fault_of(alloc, "parities", None)?, Some(BadLine::Word));
     Ok(())
 }
 

@@ -1,6 +1,6 @@
 -- What calls on single disks leave of an array.
-use Rattle.std.proofs.Common.{◌≡◌, ◌∙◌, ◌⊎◌, ◌*◌, ℕ, Bool, true, false, inl, inr, refl, sym, ap, subst, arith}
-use Rattle.std.specs.Prelude.{Option}
+use Rattle.std.proofs.Common.{◌≡◌, ◌≢◌, ◌∙◌, ◌⊎◌, ◌*◌, ℕ, Bool, true, false, inl, inr, refl, sym, ap, subst, arith}
+use Rattle.std.specs.Prelude.{IsSome, Option, Some}
 use Rattle.std.proofs.lemmas.Bool.{false≢true}
 use Rattle.dg_io.specs.DiskAnswers.{LeavesMembers, OneDisk}
 use Rattle.dg_io.specs.Disks.{DiskStates}
@@ -9,14 +9,13 @@ use Rattle.dg_model.proofs.MemberLaws.{NoneRecovers, struck_good_was}
 use Rattle.dg_model.specs.Members.{IsStruck, is_filling, is_good}
 use Rattle.dg_model.specs.States.{Counts}
 use Rattle.dg_model.specs.declared.members.MemberState.{MemberState}
-use Rattle.dg_model.specs.declared.members.MemberState.TheVariants.{Out}
-use Rattle.dg_store.specs.DiskCalls.{DiskLeaves}
+use Rattle.dg_model.specs.declared.members.MemberState.TheVariants.{Filling, Good, Out}
+use Rattle.dg_store.specs.DiskCalls.{DiskLeaves, FailsWhere}
 use Rattle.dg_store.specs.ReadLaws.{own_none}
-use Rattle.dg_store.specs.Stores.{IsSound, KeepsBlocks, members_of, rack_of, table_of}
+use Rattle.dg_store.specs.Stores.{IsSound, members_of, rack_of}
 use Rattle.dg_store.specs.declared.store.Store.{Store}
 use Rattle.dg_volume.proofs.ToldLaws.{StaysTold}
 use Rattle.dg_volume.proofs.VolumeSteps.{struck_fills, struck_out}
-use Rattle.dg_volume.specs.Disks.{FailsWhere, HandlesDisk}
 
 -- ---- members
 
@@ -39,53 +38,47 @@ pub fails_or : (fails : Bool) (s : ℕ) (old new : ℕ → MemberState) → Fail
 fails_or true s old new h = inr h
 fails_or false s old new h = inl h
 
+-- the width that a rack has
+pub some_is : (n : ℕ) (width : Option ℕ) → Some n ≡ width → IsSome width
+some_is n width is = subst IsSome is refl
+
 -- ---- nothing is done
 
 one_none : (s j : ℕ) (states : DiskStates) → OneDisk s j states states
-one_none s j states = record { rise = λ t i. omega arith; cause = λ t i other there gone. absurd (false≢true (sym there ∙ gone)); stays = λ t i other out. out }
+one_none s j states = record { same_groups = record { width = refl; count = refl }; rise = λ t i. omega arith; cause = λ t i other there gone. absurd (false≢true (sym there ∙ gone)); stays = λ t i other out. out }
 
-module _ {R : Type 0} (rack : Ghosts R) (width : R → Option ℕ) (groups : R → ℕ) where
-  members_none : (r : R) → LeavesMembers rack r r
-  members_none r = record {
+-- a member that doesn't stand is out, where each that isn't out stands
+pub fallen_out : (m : MemberState) (stands : Bool) → (m ≢ Out → stands ≡ true) → stands ≡ false → m ≡ Out
+fallen_out Good stands stand gone = absurd (false≢true (sym gone ∙ stand (λ is. absurd (cc is))))
+fallen_out (Filling have) stands stand gone = absurd (false≢true (sym gone ∙ stand (λ is. absurd (cc is))))
+fallen_out Out stands stand gone = refl
+
+module _ {R : Type 0} (rack : Ghosts R) where
+  members_none : (s : ℕ) (r : R) → LeavesMembers rack s r r
+  members_none s r = record {
     same_rack = refl;
     steady_on = (λ steady. steady, λ steady. steady);
     counts_stay = refl;
-    stand = λ q. refl;
+    others_stand = λ q other. refl;
+    stands_on = λ served. refl;
     same = λ q. (own_none rack 0 r).other_bytes q (omega arith);
     told_before = λ q told. told;
     keeps_on = λ kept keeps. keeps;
   }
 
-  pub handles_none : (s j : ℕ) (a : Store R) → IsSound rack a → HandlesDisk rack width groups s j false a a
+  pub handles_none : (s j : ℕ) (a : Store R) → IsSound rack a → DiskLeaves rack s j false a a
   handles_none s j a sound = record {
     table = refl;
     members = refl;
     disks = one_none s j (rack.disks (rack_of a));
-    leaves = members_none (rack_of a);
-    width_is = refl;
-    groups_is = refl;
+    leaves = members_none s (rack_of a);
     sound = sound;
     blocks = λ V stands. stands;
   }
 
-  -- ---- a call, and then the failure of the member
+  -- ---- what a call leaves of the members
 
-  pub handles_then : (s j : ℕ) (fails : Bool) (a m b : Store R) → DiskLeaves rack width groups s j a m → IsSound rack b → rack_of b ≡ rack_of m → table_of b ≡ table_of m
-      → FailsWhere fails s (members_of m) (members_of b) → KeepsBlocks rack m b → HandlesDisk rack width groups s j fails a b
-  handles_then s j fails a m b first sound same table members blocks = record {
-    table = table ∙ first.table;
-    members = subst (λ (old : ℕ → MemberState). FailsWhere fails s old (members_of b)) first.members members;
-    disks = subst (λ (r : R). OneDisk s j (rack.disks (rack_of a)) (rack.disks r)) (sym same) first.disks;
-    leaves = subst (λ (r : R). LeavesMembers rack (rack_of a) r) (sym same) first.leaves;
-    width_is = ap width same ∙ first.width_is;
-    groups_is = ap groups same ∙ first.groups_is;
-    sound = sound;
-    blocks = λ V stands. blocks V (first.blocks V stands);
-  }
-
-  -- ---- what that leaves of the members
-
-  module _ (s j : ℕ) (fails : Bool) (a b : Store R) (h : HandlesDisk rack width groups s j fails a b) where
+  module _ (s j : ℕ) (fails : Bool) (a b : Store R) (h : DiskLeaves rack s j fails a b) where
     pub told_disk : StaysTold rack a b
     told_disk = record {
       sound = h.sound;

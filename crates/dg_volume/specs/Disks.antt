@@ -1,20 +1,16 @@
 -- The disks of the rack of a volume: what calls on one of them answer, and what they leave. Boundaries go by their numbers in the first line.
-use Rattle.std.specs.Prelude.{◌≡◌, ◌⊎◌, ◌+◌, ◌*◌, ◌<◌, ℕ, Bool, true, false, length, Option, None}
-use Rattle.dg_io.specs.DiskAnswers.{DropsDisk, LeavesMembers, MendsDisk, OneDisk}
+use Rattle.std.specs.Prelude.{◌≡◌, ◌⊎◌, ◌<◌, ℕ, Bool, true, false, length, None}
+use Rattle.dg_io.specs.DiskAnswers.{DropsDisk, MendsDisk}
 use Rattle.dg_io.specs.declared.disks.DropAnswer.{DropAnswer}
-use Rattle.dg_io.specs.declared.disks.DropAnswer.TheVariants.{Already as RackAlready, Dropped as RackDropped, Plain as RackPlain}
+use Rattle.dg_io.specs.declared.disks.DropAnswer.TheVariants.{Already as RackAlready, Dropped as RackDropped}
 use Rattle.dg_io.specs.declared.disks.MendAnswer.{MendAnswer}
-use Rattle.dg_io.specs.declared.disks.MendAnswer.TheVariants.{Failed as RackFailed, Lost as RackLost, Mended as RackMended, NotOut as RackNotOut, Plain as RackPlainMend}
+use Rattle.dg_io.specs.declared.disks.MendAnswer.TheVariants.{Failed as RackFailed, Lost as RackLost, Mended as RackMended, NotOut as RackNotOut}
 use Rattle.dg_io.specs.declared.outside.Rack.{Ghosts}
 use Rattle.dg_model.specs.Lives.{place_in}
-use Rattle.dg_model.specs.Members.{IsStruck, is_lost}
-use Rattle.dg_model.specs.declared.members.MemberState.{MemberState}
-use Rattle.dg_model.specs.declared.members.MemberState.TheVariants.{Out}
+use Rattle.dg_model.specs.Members.{is_lost}
 use Rattle.dg_model.specs.declared.replies.Reply.{Reply}
 use Rattle.dg_model.specs.declared.replies.Reply.TheVariants.{Already as AlreadyReply, Done, Failed as FailedReply, Lost as LostReply, Mended as MendedReply, NotOut as NotOutReply, NotParity, Range as RangeReply}
-use Rattle.dg_store.specs.Stores.{IsSound, KeepsBlocks}
-use Rattle.dg_store.specs.Stores as stores
-use Rattle.dg_store.specs.declared.store.Store.{Store}
+use Rattle.dg_store.specs.DiskCalls.{DiskLeaves, FailsWhere, drop_loses, mend_loses}
 use Rattle.dg_volume.specs.Volumes.{live_of, members_of, rack_of}
 use Rattle.dg_volume.specs.declared.disks.DropDiskAnswer.{DropDiskAnswer}
 use Rattle.dg_volume.specs.declared.disks.DropDiskAnswer.TheVariants.{Already, Dropped, Plain, Range}
@@ -41,10 +37,6 @@ mend_disk_reply s (Mended stripes) = MendedReply stripes
 
 -- ---- groups of disks
 
--- no boundary has a second member
-abbrev pub AreSingle : {S R : Type 0} → Volume S R → Type 0
-AreSingle volume = (x : ℕ) → members_of volume (2 * x + 1) ≡ Out
-
 -- there is disk j of boundary s, where groups have n disks
 pub record HasDisk {S R : Type 0} (n s j : ℕ) (volume : Volume S R) : Type 0 where
   pub boundary : s < volume.in_use.boundaries
@@ -63,41 +55,12 @@ is_lost_in volume s = is_lost (members_of volume) (place_of volume s)
 
 -- ---- what the calls leave
 
--- the first member of boundary s fails, or each member does what it did
-abbrev pub FailsWhere : Bool → ℕ → (ℕ → MemberState) → (ℕ → MemberState) → Type 0
-FailsWhere true s old new = IsStruck (2 * s) old new
-FailsWhere false s old new = new ≡ old
-
--- whether two disks of the group are out, by the rack's answer
-abbrev pub drop_loses : DropAnswer → Bool
-drop_loses RackPlain = false
-drop_loses RackAlready = false
-drop_loses (RackDropped lost) = lost
-
-abbrev pub mend_loses : MendAnswer → Bool
-mend_loses RackPlainMend = false
-mend_loses RackLost = true
-mend_loses RackNotOut = false
-mend_loses RackFailed = false
-mend_loses (RackMended stripes) = false
-
--- What a call on disk j of the boundary at place s leaves of an array, whether the member fails by it or not. `width` and `groups` are how many
--- disks a group of the rack has, or none, and how many groups it has.
-pub record HandlesDisk {R : Type 0} (rack : Ghosts R) (width : R → Option ℕ) (groups : R → ℕ) (s j : ℕ) (fails : Bool) (old new : Store R) : Type 0 where
-  pub table : stores.table_of new ≡ stores.table_of old
-  pub members : FailsWhere fails s (stores.members_of old) (stores.members_of new)
-  pub disks : OneDisk s j (rack.disks (stores.rack_of old)) (rack.disks (stores.rack_of new))
-  pub leaves : LeavesMembers rack (stores.rack_of old) (stores.rack_of new)
-  pub width_is : width (stores.rack_of new) ≡ width (stores.rack_of old)
-  pub groups_is : groups (stores.rack_of new) ≡ groups (stores.rack_of old)
-  pub sound : IsSound rack new
-  pub blocks : KeepsBlocks rack old new
-
--- the same of a volume and its boundary s; nothing is done to one over a plain rack
-pub record LeavesDisks {S R : Type 0} (rack : Ghosts R) (width : R → Option ℕ) (groups : R → ℕ) (s j : ℕ) (old new : Volume S R) : Type 0 where
+-- What a call on disk j of boundary s leaves of a volume, whether the boundary's member fails by it or not. Nothing is done to one over a plain rack.
+pub record LeavesDisks {S R : Type 0} (rack : Ghosts R) (s j : ℕ) (old new : Volume S R) : Type 0 where
   pub fails : Bool
-  pub array : HandlesDisk rack width groups (place_of old s) j fails old.store new.store
-  pub idle : width (rack_of old) ≡ None → new ≡ old
+  pub array : DiskLeaves rack (place_of old s) j fails old.store new.store
+  pub idle : (rack.disks (rack_of old)).width ≡ None → new ≡ old
+  pub live : live_of new ≡ live_of old
 
 -- ---- the answers
 

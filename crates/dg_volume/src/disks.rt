@@ -1,11 +1,10 @@
 // The disks of the rack of a volume.
-ghost use Rattle.std.specs.Prelude.{◌≡◌, ◌↔◌, ◌≤◌, ◌<◌, None, IfSome};
-ghost use Rattle.dg_io.specs.DiskAnswers.{DropsDisk, MendsDisk};
+ghost use Rattle.std.specs.Prelude.{◌≡◌, ◌↔◌, ◌⊎◌, ◌≤◌, ◌<◌, None, IfSome};
 ghost use Rattle.dg_model.specs.Members.{is_lost};
 ghost use Rattle.dg_model.specs.declared.events.Event.{Event};
-ghost use Rattle.dg_store.specs.Stores.{IsSound, KeepsBlocks, members_of, table_of};
+ghost use Rattle.dg_store.specs.Stores.{IsSound, members_of};
 ghost use Rattle.dg_store.specs.Stores as stores;
-ghost use Rattle.dg_volume.specs.Disks.{AnswersDrop, AnswersMend, AreSingle, FailsWhere, HandlesDisk, LeavesDisks, drop_disk_reply, drop_loses, mend_disk_reply, mend_loses};
+ghost use Rattle.dg_volume.specs.Disks.{AnswersDrop, AnswersMend, LeavesDisks, drop_disk_reply, mend_disk_reply, place_of};
 ghost use Rattle.dg_volume.specs.Regroups.{GoesOn};
 ghost use Rattle.dg_volume.specs.Volumes.{IsWell, given_of, rack_of, shape_of, StepsTo};
 
@@ -53,73 +52,10 @@ fn is_lost_at<R: Rack>(store: &Store<R>, place: u8) -> bool
     store.boundary(place).is_lost()
 }
 
-/// Whether two disks of the group are out, by the answer to the drop of one.
-fn is_lost_by_drop(answer: DropAnswer) -> bool
-    ensures { result ≡ drop_loses answer }
-{
-    match answer {
-        DropAnswer::Dropped(lost) => lost,
-        DropAnswer::Plain => false,
-        DropAnswer::Already => false,
-    }
-}
-
-/// The same by the answer to the mending of one.
-fn is_lost_by_mend(answer: MendAnswer) -> bool
-    ensures { result ≡ mend_loses answer }
-{
-    matches!(answer, MendAnswer::Lost)
-}
-
-/// Makes the first member of a boundary fail where two disks of its group are out.
-fn fail_where<R: Rack>(store: &mut Store<R>, place: u8, lost: bool)
-    requires sound { IsSound R.Rack store.old }
-    requires place { place < (stores.shape_of store.old).b }
-    ensures sound { IsSound R.Rack store.new }
-    ensures rack { stores.rack_of store.new ≡ stores.rack_of store.old }
-    ensures table { table_of store.new ≡ table_of store.old }
-    ensures members { FailsWhere lost place (members_of store.old) (members_of store.new) }
-    ensures blocks { KeepsBlocks R.Rack store.old store.new }
-{
-    if lost {
-        store.fail(place, 0);
-    }
-}
-
-/// A disk of the boundary at a place goes out. Where two of its disks are out then, its member fails.
-fn drop_at<R: Disks>(store: &mut Store<R>, place: u8, disk: u8) -> DropAnswer
-    requires sound { IsSound R.Rack store.old }
-    requires place { place < (stores.shape_of store.old).b }
-    requires group { IfSome (R.width (stores.rack_of store.old)) (λ n. (place < R.groups (stores.rack_of store.old)) × (disk < n)) }
-    ensures plain { (result ≡ DropAnswer.Plain) ↔ (R.width (stores.rack_of store.old) ≡ None) }
-    ensures answer { IfSome (R.width (stores.rack_of store.old))
-        (λ n. DropsDisk n place disk (R.disks (stores.rack_of store.old)) (R.disks (stores.rack_of store.new)) result) }
-    ensures handles { HandlesDisk R.Rack R.width R.groups place disk (drop_loses result) store.old store.new }
-{
-    let answer = store.drop_disk(place, disk);
-    fail_where(store, place, is_lost_by_drop(answer));
-    answer
-}
-
-/// A disk of the boundary at a place comes back, or else its member fails where two of its disks are out.
-fn mend_at<R: Disks>(store: &mut Store<R>, place: u8, disk: u8) -> MendAnswer
-    requires sound { IsSound R.Rack store.old }
-    requires place { place < (stores.shape_of store.old).b }
-    requires group { IfSome (R.width (stores.rack_of store.old)) (λ n. (place < R.groups (stores.rack_of store.old)) × (disk < n)) }
-    ensures plain { (result ≡ MendAnswer.Plain) ↔ (R.width (stores.rack_of store.old) ≡ None) }
-    ensures answer { IfSome (R.width (stores.rack_of store.old))
-        (λ n. MendsDisk n place disk (R.disks (stores.rack_of store.old)) (R.disks (stores.rack_of store.new)) result) }
-    ensures handles { HandlesDisk R.Rack R.width R.groups place disk (mend_loses result) store.old store.new }
-{
-    let answer = store.mend(place, disk);
-    fail_where(store, place, is_lost_by_mend(answer));
-    answer
-}
-
 impl<S: InPhase, R: Disks> Volume<S, R> {
     /// How many disks a group of the rack has, or `None` of a plain rack.
     pub fn disks(&self) -> Option<u8>
-        ensures { result ≡ R.width (rack_of self.now) }
+        ensures { result ≡ (R.disks (rack_of self.now)).width }
     {
         self.store.disks()
     }
@@ -128,13 +64,15 @@ impl<S: InPhase, R: Disks> Volume<S, R> {
     /// fails.
     pub fn drop_disk(&mut self, boundary: u32, disk: u32) -> DropDiskAnswer
         requires well { IsWell S.InPhase R.Rack self.old }
-        requires groups { IfSome (R.width (rack_of self.old)) (λ n. (shape_of self.old).b ≤ R.groups (rack_of self.old)) }
+        requires groups { IfSome (R.disks (rack_of self.old)).width (λ n. (shape_of self.old).b ≤ (R.disks (rack_of self.old)).groups) }
         ensures steps { StepsTo S.InPhase S.InPhase R.Rack self.old (Event.DropDisk boundary disk) (drop_disk_reply result) self.new }
         ensures on { GoesOn S.InPhase R.Rack self.old self.new }
-        ensures leaves { LeavesDisks R.Rack R.width R.groups boundary disk self.old self.new }
-        ensures plain { (result ≡ DropDiskAnswer.Plain) ↔ (R.width (rack_of self.old) ≡ None) }
-        ensures answer { IfSome (R.width (rack_of self.old)) (λ n. AnswersDrop R.Rack n boundary disk self.old self.new result) }
+        ensures leaves { LeavesDisks R.Rack boundary disk self.old self.new }
+        ensures plain { (result ≡ DropDiskAnswer.Plain) ↔ ((R.disks (rack_of self.old)).width ≡ None) }
+        ensures answer { IfSome (R.disks (rack_of self.old)).width (λ n. AnswersDrop R.Rack n boundary disk self.old self.new result) }
+        ensures already { result ≡ DropDiskAnswer.Already → self.new ≡ self.old }
         ensures given { given_of self.new ≡ given_of self.old }
+        ensures handles { (self.new ≡ self.old) ⊎ R.handles (rack_of self.old) (place_of self.old boundary) disk (rack_of self.new) }
     {
         let Some(width) = self.store.disks() else {
             return DropDiskAnswer::Plain;
@@ -145,7 +83,7 @@ impl<S: InPhase, R: Disks> Volume<S, R> {
         let Some(place) = self.in_use.place(boundary) else {
             return DropDiskAnswer::Already;
         };
-        match drop_at(&mut self.store, place, disk as u8) {
+        match self.store.drop_disk(place, disk as u8) {
             DropAnswer::Plain => DropDiskAnswer::Plain,
             DropAnswer::Already => DropDiskAnswer::Already,
             DropAnswer::Dropped(_) => DropDiskAnswer::Dropped,
@@ -156,14 +94,15 @@ impl<S: InPhase, R: Disks> Volume<S, R> {
     /// are out, the boundary's first member fails, and the boundary is lost.
     pub fn mend(&mut self, boundary: u32, disk: u32) -> MendDiskAnswer
         requires well { IsWell S.InPhase R.Rack self.old }
-        requires groups { IfSome (R.width (rack_of self.old)) (λ n. (shape_of self.old).b ≤ R.groups (rack_of self.old)) }
-        requires single { IfSome (R.width (rack_of self.old)) (λ n. AreSingle self.old) }
+        requires groups { IfSome (R.disks (rack_of self.old)).width (λ n. (shape_of self.old).b ≤ (R.disks (rack_of self.old)).groups) }
         ensures steps { StepsTo S.InPhase S.InPhase R.Rack self.old (Event.MendDisk boundary disk) (mend_disk_reply boundary result) self.new }
         ensures on { GoesOn S.InPhase R.Rack self.old self.new }
-        ensures leaves { LeavesDisks R.Rack R.width R.groups boundary disk self.old self.new }
-        ensures plain { (result ≡ MendDiskAnswer.Plain) ↔ (R.width (rack_of self.old) ≡ None) }
-        ensures answer { IfSome (R.width (rack_of self.old)) (λ n. AnswersMend R.Rack n boundary disk self.old self.new result) }
+        ensures leaves { LeavesDisks R.Rack boundary disk self.old self.new }
+        ensures plain { (result ≡ MendDiskAnswer.Plain) ↔ ((R.disks (rack_of self.old)).width ≡ None) }
+        ensures answer { IfSome (R.disks (rack_of self.old)).width (λ n. AnswersMend R.Rack n boundary disk self.old self.new result) }
+        ensures not_out { result ≡ MendDiskAnswer.NotOut → self.new ≡ self.old }
         ensures given { given_of self.new ≡ given_of self.old }
+        ensures handles { (self.new ≡ self.old) ⊎ R.handles (rack_of self.old) (place_of self.old boundary) disk (rack_of self.new) }
     {
         let Some(width) = self.store.disks() else {
             return MendDiskAnswer::Plain;
@@ -177,7 +116,7 @@ impl<S: InPhase, R: Disks> Volume<S, R> {
         if is_lost_at(&self.store, place) {
             return MendDiskAnswer::Lost;
         }
-        match mend_at(&mut self.store, place, disk as u8) {
+        match self.store.mend(place, disk as u8) {
             MendAnswer::Plain => MendDiskAnswer::Plain,
             MendAnswer::Lost => MendDiskAnswer::Lost,
             MendAnswer::NotOut => MendDiskAnswer::NotOut,

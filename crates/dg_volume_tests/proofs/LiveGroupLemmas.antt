@@ -1,10 +1,9 @@
 -- What calls leave of volumes over the boundaries in use of racks of groups of disks, also calls that take lost boundaries out of use.
-use Rattle.std.proofs.Common.{◌≡◌, ◌∙◌, ◌≤◌, ◌<◌, ◌+◌, ◌-◌, ◌*◌, ◌/◌, ◌%◌, ◌==◌, ℕ, Bool, true, false, List, [], ap, arith, get_or, length, nat_lt, refl, subst, sym}
+use Rattle.std.proofs.Common.{◌≡◌, ◌∙◌, ◌≤◌, ◌<◌, ◌+◌, ◌-◌, ◌==◌, ℕ, Bool, List, ap, arith, get_or, length, nat_lt, refl, subst, sym}
 use Rattle.std.specs.Global.{Vec}
 use Rattle.std.specs.Int.{bit_at}
 use Rattle.std.specs.List.{filter}
-use Rattle.std.specs.Prelude.{Option, Some, None, IfSome, if◌then◌else◌}
-use Rattle.std.proofs.Math.Nat.{mul-add-mod_self_left}
+use Rattle.std.specs.Prelude.{Option, Some, None, IfSome}
 use Rattle.std.proofs.lemmas.Bool.Decides.{nat_tests}
 use Rattle.std.proofs.lemmas.List.{get_or-map, length-map}
 use Rattle.std.proofs.lemmas.List.FromFn.{get_or-range_with_len, length-range_with_len}
@@ -13,24 +12,22 @@ use Rattle.dg_io.specs.Makes.Makes.{nothing as made_nothing, after as made_after
 use Rattle.dg_io.specs.RackCalls.{RackCall}
 use Rattle.dg_io.specs.Reduced.{places_left}
 use Rattle.dg_io.specs.declared.outside.Rack.{Ghosts}
-use Rattle.dg_model.specs.Lives.{all_live, boundary_at, member_at}
-use Rattle.dg_model.specs.Saves.{member_length}
+use Rattle.dg_model.specs.Lives.{all_live, boundary_at}
 use Rattle.dg_model.specs.Shapes.{IsShape}
 use Rattle.dg_model.specs.Tables.{Table}
 use Rattle.dg_model.specs.declared.shapes.Shape.{Shape}
-use Rattle.dg_parity.specs.Arrays.{Grouped}
-use Rattle.dg_parity.specs.ParityRacks.{IsNew, groups_in, made_by, parity_bytes, parity_words, width_in}
+use Rattle.dg_parity.specs.ParityRacks.{IsNew, made_by, parity_disks, parity_words}
 use Rattle.dg_parity.specs.declared.parity_racks.ParityRack.{ParityRack}
 use Rattle.dg_parity.specs.declared.parity_racks.ParityRack.TheVariants.{OfGroups, Plain}
 use Rattle.dg_regroup.specs.LiveGhosts.{live}
 use Rattle.dg_regroup.specs.LiveMade.{calls_below}
 use Rattle.dg_regroup.specs.LivePlaces.{first_groups}
-use Rattle.dg_regroup.specs.LiveRacks.{DropsBoundaries, is_there, live_bytes, live_count, live_groups, live_in, live_left, live_width, rack_in}
+use Rattle.dg_regroup.specs.LiveRacks.{DropsBoundaries, live_count, live_disks, live_in, live_left, rack_in}
 use Rattle.dg_regroup.specs.declared.live_racks.LiveRack.{LiveRack}
 use Rattle.dg_store.specs.Stores as stores
-use Rattle.dg_volume.specs.Disks.{AreSingle, LeavesDisks}
+use Rattle.dg_volume.specs.Disks.{LeavesDisks}
 use Rattle.dg_volume.specs.Regroups.{AnswersRegroup, GoesOn, TakesOut}
-use Rattle.dg_volume.specs.Volumes.{IsBlankVolume, Leaves, any_phase, loose_phase, members_of, rack_of, shape_of}
+use Rattle.dg_volume.specs.Volumes.{IsBlankVolume, Leaves, any_phase, loose_phase, rack_of, shape_of}
 use Rattle.dg_volume.specs.declared.phases.AnyPhase.{AnyPhase}
 use Rattle.dg_volume.specs.declared.phases.InPhase as phases
 use Rattle.dg_volume.specs.declared.phases.Loose.{Loose}
@@ -38,26 +35,33 @@ use Rattle.dg_volume.specs.declared.regroups.RegroupAnswer.{RegroupAnswer}
 use Rattle.dg_volume.specs.declared.regroups.RegroupAnswer.TheVariants.{Regrouped, TooFew, Whole}
 use Rattle.dg_volume.specs.declared.volumes.Volume.{Volume}
 use Rattle.dg_volume_tests.specs.Grouped.{IsOfLiveGroups}
-use Rattle.dg_volume_tests.proofs.GroupedLemmas.{new_groups, out_by, second_bytes}
+use Rattle.dg_volume_tests.proofs.GroupedLemmas.{new_groups}
 use Rattle.dg_volume_tests.proofs.LiveLemmas.{TellNames, all_ready}
 use Rattle.dg_volume_tests.proofs.PlaceLemmas.{front_passes, left_below, left_front, no_longer}
 use Rattle.dg_volume_tests.proofs.ReadyLemmas.{regrouped_ready, stays_ready}
 
 -- ---- what calls leave
 
--- the same boundaries in use, of as many groups
-record IsStill {R : Type 0} (old new : LiveRack (ParityRack R)) : Type 0 where
-  live : live_in new ≡ live_in old
-  groups : groups_in (rack_in new) ≡ groups_in (rack_in old)
+-- how many groups there are, and how many of the boundaries in use are groups
+abbrev groups_in : {R : Type 0} → Ghosts R → ParityRack R → ℕ
+groups_in rack it = (parity_disks rack it).groups
 
-groups_by : {R : Type 0} (rack : Ghosts R) (a b : ParityRack R) (calls : List RackCall) → made_by rack a calls b → groups_in b ≡ groups_in a
+abbrev groups_of : {R : Type 0} → Ghosts R → LiveRack (ParityRack R) → ℕ
+groups_of rack it = (live_disks (parity_words rack) it).groups
+
+-- the same boundaries in use, of as many groups
+record IsStill {R : Type 0} (rack : Ghosts R) (old new : LiveRack (ParityRack R)) : Type 0 where
+  live : live_in new ≡ live_in old
+  groups : groups_in rack (rack_in new) ≡ groups_in rack (rack_in old)
+
+groups_by : {R : Type 0} (rack : Ghosts R) (a b : ParityRack R) (calls : List RackCall) → made_by rack a calls b → groups_in rack b ≡ groups_in rack a
 groups_by rack (Plain a) (Plain b) calls is = refl
 groups_by rack (Plain a) (OfGroups b) calls is = absurd is
 groups_by rack (OfGroups a) (Plain b) calls is = absurd is
 groups_by rack (OfGroups a) (OfGroups b) calls is = is.shaped.groups
 
-calls_still : {R : Type 0} (rack : Ghosts R) (may : RackCall → Type 0) (a b : LiveRack (ParityRack R)) → Makes (live (parity_words rack)) may a b → IsStill a b
-calls_still {R = R} rack may a b (made_nothing same) = record { live = ap (λ (it : LiveRack (ParityRack R)). live_in it) same; groups = ap (λ (it : LiveRack (ParityRack R)). groups_in (rack_in it)) same }
+calls_still : {R : Type 0} (rack : Ghosts R) (may : RackCall → Type 0) (a b : LiveRack (ParityRack R)) → Makes (live (parity_words rack)) may a b → IsStill rack a b
+calls_still {R = R} rack may a b (made_nothing same) = record { live = ap (λ (it : LiveRack (ParityRack R)). live_in it) same; groups = ap (λ (it : LiveRack (ParityRack R)). groups_in rack (rack_in it)) same }
 calls_still rack may a b (made_after {b = mid} first only) =
     let was = calls_still rack may a mid first in record {
       live = ap (λ (v : Vec ℕ). v.items) only.made.live ∙ was.live;
@@ -65,9 +69,9 @@ calls_still rack may a b (made_after {b = mid} first only) =
     }
 
 -- so many boundaries in use are groups
-groups_still : {R : Type 0} (old new : LiveRack (ParityRack R)) → IsStill old new → live_groups groups_in new ≡ live_groups groups_in old
-groups_still old new still =
-    ap (λ (l : List ℕ). length (filter (λ s. nat_lt s (groups_in (rack_in new))) l)) still.live
+groups_still : {R : Type 0} (rack : Ghosts R) (old new : LiveRack (ParityRack R)) → IsStill rack old new → groups_of rack new ≡ groups_of rack old
+groups_still rack old new still =
+    ap (λ (l : List ℕ). length (filter (λ s. nat_lt s (groups_in rack (rack_in new))) l)) still.live
     ∙ ap (λ (n : ℕ). length (filter (λ s. nat_lt s n) (live_in old))) still.groups
 
 -- any call but those on single disks, and one that takes boundaries out of use
@@ -75,26 +79,26 @@ pub stays_live : {S T R : Type 0} (from : phases.Ghosts S) (to : phases.Ghosts T
     → Leaves from to (live (parity_words rack)) old new → IsOfLiveGroups from rack old → IsOfLiveGroups to rack new
 stays_live from to rack old new leaves was = record {
   ready = stays_ready from to (live (parity_words rack)) live_count old new leaves was.ready;
-  groups = omega (arith, was.groups, groups_still (rack_of old) (rack_of new) (calls_still rack _ (rack_of old) (rack_of new) leaves.own.made), ap (λ (s : Shape). s.b) leaves.shape);
+  groups = omega (arith, was.groups, groups_still rack (rack_of old) (rack_of new) (calls_still rack _ (rack_of old) (rack_of new) leaves.own.made), ap (λ (s : Shape). s.b) leaves.shape);
 }
 
 -- a blank volume over all boundaries that there may be of a rack of so many new groups
 pub blank_live_groups : {R : Type 0} (rack : Ghosts R) → TellNames → (shape : Shape) → IsShape shape → (below : R) (groups n : ℕ) (new : ParityRack R) (before : LiveRack (ParityRack R)) (volume : Volume Loose (LiveRack (ParityRack R)))
     → IsNew rack below groups n new → rack_in before ≡ new → live_in before ≡ all_live 16 → shape.b ≤ groups → IsBlankVolume (live (parity_words rack)) shape before volume → IsOfLiveGroups loose_phase rack volume
 blank_live_groups rack law shape is below groups n new before volume made over all few blank =
-    let still = groups_still before (rack_of volume) (calls_still rack _ before (rack_of volume) blank.own.made) in
-    let first = front_passes (λ s. nat_lt s (groups_in (rack_in before))) (all_live 16) shape.b (omega (arith, is.most_boundaries, length-range_with_len 0 16)) (λ i low.
+    let still = groups_still rack before (rack_of volume) (calls_still rack _ before (rack_of volume) blank.own.made) in
+    let first = front_passes (λ s. nat_lt s (groups_in rack (rack_in before))) (all_live 16) shape.b (omega (arith, is.most_boundaries, length-range_with_len 0 16)) (λ i low.
     let at = get_or-range_with_len 0 16 i 0 (omega (arith, low, is.most_boundaries)) in
-    let count : groups_in (rack_in before) ≡ groups = ap groups_in over ∙ new_groups rack below groups n new made in
-    let less : get_or (all_live 16) i 0 < groups_in (rack_in before) = omega (arith, at, count, low, few) in
+    let count : groups_in rack (rack_in before) ≡ groups = ap (groups_in rack) over ∙ new_groups rack below groups n new made in
+    let less : get_or (all_live 16) i 0 < groups_in rack (rack_in before) = omega (arith, at, count, low, few) in
     grind (arith, nat_tests, less)) in record {
       ready = all_ready (parity_words rack) law shape is before all volume blank;
-      groups = omega (arith, still, first, ap (λ (l : List ℕ). length (filter (λ s. nat_lt s (groups_in (rack_in before))) l)) all, ap (λ (s : Shape). s.b) blank.shape_is);
+      groups = omega (arith, still, first, ap (λ (l : List ℕ). length (filter (λ s. nat_lt s (groups_in rack (rack_in before))) l)) all, ap (λ (s : Shape). s.b) blank.shape_is);
     }
 
 -- a call on a single disk
 pub handled_live : {S R : Type 0} (phase : phases.Ghosts S) (rack : Ghosts R) (s j : ℕ) (old new : Volume S (LiveRack (ParityRack R)))
-    → GoesOn phase (live (parity_words rack)) old new → LeavesDisks (live (parity_words rack)) (live_width width_in) (live_groups groups_in) s j old new
+    → GoesOn phase (live (parity_words rack)) old new → LeavesDisks (live (parity_words rack)) s j old new
     → IsOfLiveGroups phase rack old → IsOfLiveGroups phase rack new
 handled_live phase rack s j old new on leaves was =
     let shape = ap (λ (t : Table). t.shape.b) leaves.array.table in record {
@@ -103,7 +107,7 @@ handled_live phase rack s j old new on leaves was =
         names = was.ready.names;
         enough = omega (arith, was.ready.enough, was.ready.names (rack_of new) (rack_of old) leaves.array.leaves.same_rack, shape);
       };
-      groups = omega (arith, was.groups, leaves.array.groups_is, shape);
+      groups = omega (arith, was.groups, leaves.array.disks.same_groups.count, shape);
     }
 
 -- ---- without lost boundaries
@@ -127,7 +131,7 @@ left_groups lost m b groups before next wide are is rest x low =
 -- where boundaries were taken out of use
 taken_groups : {R : Type 0} (rack : Ghosts R) (old new : Volume AnyPhase (LiveRack (ParityRack R))) → IsOfLiveGroups any_phase rack old
     → (out : TakesOut (live (parity_words rack)) live_count DropsBoundaries old.store new.store) → (shape_of new).b ≤ live_count (rack_of new)
-    → (shape_of new).b ≤ live_groups groups_in (rack_of new)
+    → (shape_of new).b ≤ groups_of rack (rack_of new)
 taken_groups rack old new was out enough =
     let mid = stores.rack_of out.mid in
     let left = stores.rack_of out.left in
@@ -136,14 +140,14 @@ taken_groups rack old new was out enough =
     let before = ap (λ (s : Shape). s.b) out.opened.shape in
     let after = ap (λ (s : Shape). s.b) out.read.shape in
     let wide : (stores.shape_of out.mid).b ≤ live_count mid = omega (arith, was.ready.enough, ap length opened.live, before) in
-    let many : (stores.shape_of out.mid).b ≤ live_groups groups_in mid = omega (arith, was.groups, groups_still (rack_of old) mid opened, before) in
-    let groups : groups_in (rack_in (rack_of new)) ≡ groups_in (rack_in mid) = read.groups ∙ ap groups_in out.below.rack in
-    let are = left_groups _ (stores.shape_of out.mid).b (stores.shape_of out.left).b (groups_in (rack_in mid)) (live_in mid) (live_in left) wide
-    (λ x low. first_groups (groups_in (rack_in mid)) (live_in mid) x mid.ascend (omega (arith, low, many))) out.below.live out.rest in
-    front_passes (λ s. nat_lt s (groups_in (rack_in (rack_of new)))) (live_in (rack_of new)) (shape_of new).b enough (λ x low.
-    let less : boundary_at (live_in left) x < groups_in (rack_in mid) = are x (omega (arith, low, after)) in
+    let many : (stores.shape_of out.mid).b ≤ groups_of rack mid = omega (arith, was.groups, groups_still rack (rack_of old) mid opened, before) in
+    let groups : groups_in rack (rack_in (rack_of new)) ≡ groups_in rack (rack_in mid) = read.groups ∙ ap (groups_in rack) out.below.rack in
+    let are = left_groups _ (stores.shape_of out.mid).b (stores.shape_of out.left).b (groups_in rack (rack_in mid)) (live_in mid) (live_in left) wide
+    (λ x low. first_groups (groups_in rack (rack_in mid)) (live_in mid) x mid.ascend (omega (arith, low, many))) out.below.live out.rest in
+    front_passes (λ s. nat_lt s (groups_in rack (rack_in (rack_of new)))) (live_in (rack_of new)) (shape_of new).b enough (λ x low.
+    let less : boundary_at (live_in left) x < groups_in rack (rack_in mid) = are x (omega (arith, low, after)) in
     let at : boundary_at (live_in (rack_of new)) x ≡ boundary_at (live_in left) x = ap (λ (l : List ℕ). get_or l x 0) read.live in
-    let here : boundary_at (live_in (rack_of new)) x < groups_in (rack_in (rack_of new)) = omega (arith, less, at, groups) in
+    let here : boundary_at (live_in (rack_of new)) x < groups_in rack (rack_in (rack_of new)) = omega (arith, less, at, groups) in
     grind (arith, nat_tests, here))
 
 -- what `regroup` leaves
@@ -162,34 +166,10 @@ regrouped_live rack old new (Regrouped r c) on is was =
 
 -- the rack has a group for each boundary
 pub has_live_groups : {S R : Type 0} (phase : phases.Ghosts S) (rack : Ghosts R) (volume : Volume S (LiveRack (ParityRack R))) → IsOfLiveGroups phase rack volume
-    → IfSome (live_width width_in (rack_of volume)) (λ n. (shape_of volume).b ≤ live_groups groups_in (rack_of volume))
-has_live_groups phase rack volume is = if_some (live_width width_in (rack_of volume)) is.groups where
-  if_some : (o : Option ℕ) → (shape_of volume).b ≤ live_groups groups_in (rack_of volume) → IfSome o (λ n. (shape_of volume).b ≤ live_groups groups_in (rack_of volume))
-  if_some None few = tt
-  if_some (Some n) few = few
-
-if_there : (there : Bool) (told : Option (List ℕ)) → told ≡ Some [] → (if there then told else Some []) ≡ Some []
-if_there true told is = is
-if_there false told is = refl
-
--- the second member of a boundary in use has no byte, and one that isn't there has none
-second_live : {R : Type 0} (rack : Ghosts R) (it : LiveRack (ParityRack R)) (grouped : Grouped R) (x : ℕ) → rack_in it ≡ OfGroups grouped
-    → live_bytes (parity_words rack) it (2 * x + 1) ≡ Some []
-second_live {R = R} rack it grouped x same =
-    let s = boundary_at (live_in it) ((2 * x + 1) / 2) in
-    let odd : (2 * x + 1) % 2 ≡ 1 = mul-add-mod_self_left 2 x 1 in
-    let told : parity_bytes rack (rack_in it) (member_at (live_in it) (2 * x + 1)) ≡ Some [] =
-    ap (λ (r : ℕ). parity_bytes rack (rack_in it) (2 * s + r)) odd ∙ ap (λ (now : ParityRack R). parity_bytes rack now (2 * s + 1)) same ∙ second_bytes rack grouped s in
-    if_there (is_there (live_in it) (2 * x + 1)) (parity_bytes rack (rack_in it) (member_at (live_in it) (2 * x + 1))) told
-
--- no boundary has a second member
-pub has_live_single : {S R : Type 0} (phase : phases.Ghosts S) (rack : Ghosts R) (volume : Volume S (LiveRack (ParityRack R))) → IsOfLiveGroups phase rack volume
-    → IfSome (live_width width_in (rack_of volume)) (λ n. AreSingle volume)
-has_live_single {R = R} phase rack volume is = by_kind (rack_in (rack_of volume)) refl where
-  by_kind : (kind : ParityRack R) → rack_in (rack_of volume) ≡ kind → IfSome (width_in kind) (λ n. AreSingle volume)
-  by_kind (Plain it) same = tt
-  by_kind (OfGroups it) same = λ x. out_by (members_of volume (2 * x + 1)) (λ not.
-      let long : IfSome (live_bytes (parity_words rack) (rack_of volume) (2 * x + 1)) (λ all. member_length 1 (shape_of volume) ≤ length all) = is.ready.well.array.long (2 * x + 1) not in
-      let short : member_length 1 (shape_of volume) ≤ 0 =
-      subst (λ (told : Option (List ℕ)). IfSome told (λ all. member_length 1 (shape_of volume) ≤ length all)) (second_live rack (rack_of volume) it x same) long in
-      absurd (omega (arith, short)))
+    → IfSome (live_disks (parity_words rack) (rack_of volume)).width (λ n. (shape_of volume).b ≤ (live_disks (parity_words rack) (rack_of volume)).groups)
+has_live_groups phase rack volume is =
+    if_some (live_disks (parity_words rack) (rack_of volume)).width is.groups where
+      if_some : (o : Option ℕ) → (shape_of volume).b ≤ (live_disks (parity_words rack) (rack_of volume)).groups
+          → IfSome o (λ n. (shape_of volume).b ≤ (live_disks (parity_words rack) (rack_of volume)).groups)
+      if_some None few = tt
+      if_some (Some n) few = few

@@ -1,8 +1,9 @@
 -- How many groups a rack has.
 use Rattle.std.specs.Prelude.{◌≡◌, ◌⊎◌, None}
-use Rattle.dg_parity.specs.ParityRacks.{groups_in, width_in}
+use Rattle.dg_io.specs.declared.outside.Rack.{Ghosts}
+use Rattle.dg_parity.specs.ParityRacks.{parity_disks}
 use Rattle.dg_parity.specs.declared.parity_racks.ParityRack.{ParityRack}
 
 -- it is plain, or has sixteen groups
-pub record IsOfSixteen {R : Type 0} (it : ParityRack R) : Type 0 where
-  pub groups : (width_in it ≡ None) ⊎ (groups_in it ≡ 16)
+pub record IsOfSixteen {R : Type 0} (rack : Ghosts R) (it : ParityRack R) : Type 0 where
+  pub groups : ((parity_disks rack it).width ≡ None) ⊎ ((parity_disks rack it).groups ≡ 16)

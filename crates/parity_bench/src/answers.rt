@@ -30,16 +30,16 @@ pub enum Answer {
 
 /// The length of a member that is there.
 fn find<R: Rack>(rack: &mut ParityRack<R>, member: u8) -> Result<Option<u64>, Failed>
-    requires { IsOfSixteen rack.old }
-    ensures shape { IsOfSixteen rack.new }
+    requires { IsOfSixteen R.Rack rack.old }
+    ensures shape { IsOfSixteen R.Rack rack.new }
 {
     rack.attach(member)
 }
 
 /// The length of a member that is there.
 fn long<R: Rack>(rack: &mut ParityRack<R>, member: u8) -> Option<u64>
-    requires { IsOfSixteen rack.old }
-    ensures shape { IsOfSixteen rack.new }
+    requires { IsOfSixteen R.Rack rack.old }
+    ensures shape { IsOfSixteen R.Rack rack.new }
     ensures stands { IsSome result → parity_stands R.Rack rack.new member ≡ true }
     ensures long { IfSome result (λ n. IfSome (parity_bytes R.Rack rack.new member) (λ all. length all ≡ n)) }
 {
@@ -56,8 +56,8 @@ pub fn read_into<R: Rack>(
     place: u64,
     buf: &mut [u8],
 ) -> &'static str
-    requires { IsOfSixteen rack.old }
-    ensures { IsOfSixteen rack.new }
+    requires { IsOfSixteen R.Rack rack.old }
+    ensures { IsOfSixteen R.Rack rack.new }
 {
     let Some(all) = long(rack, member) else {
         return "failed";
@@ -86,8 +86,8 @@ pub fn write_to<R: Rack>(
     place: u64,
     buf: &[u8],
 ) -> &'static str
-    requires { IsOfSixteen rack.old }
-    ensures { IsOfSixteen rack.new }
+    requires { IsOfSixteen R.Rack rack.old }
+    ensures { IsOfSixteen R.Rack rack.new }
 {
     let Some(all) = long(rack, member) else {
         return "failed";
@@ -103,8 +103,8 @@ pub fn write_to<R: Rack>(
 
 /// Makes a member longer.
 fn extend_to<R: Rack>(rack: &mut ParityRack<R>, member: u8, size: u64) -> &'static str
-    requires { IsOfSixteen rack.old }
-    ensures { IsOfSixteen rack.new }
+    requires { IsOfSixteen R.Rack rack.old }
+    ensures { IsOfSixteen R.Rack rack.new }
 {
     let Some(all) = long(rack, member) else {
         return "failed";
@@ -117,8 +117,8 @@ fn extend_to<R: Rack>(rack: &mut ParityRack<R>, member: u8, size: u64) -> &'stat
 
 /// A disk of a group goes out.
 pub fn drop_one<R: Rack>(rack: &mut ParityRack<R>, s: u8, j: u64) -> Answer
-    requires { IsOfSixteen rack.old }
-    ensures { IsOfSixteen rack.new }
+    requires { IsOfSixteen R.Rack rack.old }
+    ensures { IsOfSixteen R.Rack rack.new }
 {
     let Some(n) = rack.disks() else {
         return Answer::Word("plain");
@@ -136,8 +136,8 @@ pub fn drop_one<R: Rack>(rack: &mut ParityRack<R>, s: u8, j: u64) -> Answer
 
 /// A disk of a group comes back.
 pub fn mend_one<R: Rack>(rack: &mut ParityRack<R>, s: u8, j: u64) -> Answer
-    requires { IsOfSixteen rack.old }
-    ensures { IsOfSixteen rack.new }
+    requires { IsOfSixteen R.Rack rack.old }
+    ensures { IsOfSixteen R.Rack rack.new }
 {
     let Some(n) = rack.disks() else {
         return Answer::Word("plain");
@@ -176,8 +176,8 @@ fn read_some<R: Rack>(
     place: u64,
     count: u64,
 ) -> Result<Answer, NoMemory>
-    requires { IsOfSixteen rack.old }
-    ensures { IsOfSixteen rack.new }
+    requires { IsOfSixteen R.Rack rack.old }
+    ensures { IsOfSixteen R.Rack rack.new }
 {
     let Ok(mut buf) = vec![in alloc; 0; count.min(MOST) as usize] else {
         return Err(NoMemory);
@@ -199,8 +199,8 @@ pub fn bytes_of(alloc: Global, digits: &str) -> Result<Vec<u8>, NoMemory> {
 
 /// Makes a member anew.
 pub fn blank_one<R: Rack>(rack: &mut ParityRack<R>, member: u8, size: u64) -> &'static str
-    requires { IsOfSixteen rack.old }
-    ensures { IsOfSixteen rack.new }
+    requires { IsOfSixteen R.Rack rack.old }
+    ensures { IsOfSixteen R.Rack rack.new }
 {
     word_of(rack.blank(member, size))
 }
@@ -211,8 +211,8 @@ pub fn reply_to<R: Rack>(
     rack: &mut ParityRack<R>,
     asked: Asked,
 ) -> Result<Answer, NoMemory>
-    requires { IsOfSixteen rack.old }
-    ensures { IsOfSixteen rack.new }
+    requires { IsOfSixteen R.Rack rack.old }
+    ensures { IsOfSixteen R.Rack rack.new }
 {
     let member = asked.group.wrapping_mul(2);
     let number = asked.number;

@@ -22,8 +22,8 @@ const LARGEST: u64 = 1 << 30;
 
 /// Makes the member of group 0 anew and writes all of it but for the last bytes.
 fn fill<R: Rack>(rack: &mut ParityRack<R>, size: u64)
-    requires { IsOfSixteen rack.old }
-    ensures { IsOfSixteen rack.new }
+    requires { IsOfSixteen R.Rack rack.old }
+    ensures { IsOfSixteen R.Rack rack.new }
 {
     blank_one(rack, 0, size);
     let piece = [0x5a; PIECE];
@@ -34,7 +34,7 @@ fn fill<R: Rack>(rack: &mut ParityRack<R>, size: u64)
 
 /// Reads so many blocks, which begin at chunks, as long as the buffer. How many were read.
 fn read_all<R: Rack>(rack: &mut ParityRack<R>, blocks: u32, reads: u32, buf: &mut [u8]) -> u32
-    requires { IsOfSixteen rack.old }
+    requires { IsOfSixteen R.Rack rack.old }
 {
     let mut numbers = Numbers::new(1);
     let mut done: u32 = 0;
@@ -89,7 +89,7 @@ pub struct Asked {
 
 /// A disk goes out and comes back, so many times. How many stripes were written.
 fn mend_all<R: Rack>(rack: &mut ParityRack<R>, times: u32) -> u32
-    requires { IsOfSixteen rack.old }
+    requires { IsOfSixteen R.Rack rack.old }
 {
     let mut done: u32 = 0;
     for _ in 0..times {

@@ -14,14 +14,14 @@ pub fn new_rack<R: Rack + Drop>(
 ) -> Result<ParityRack<R>, NoMemory>
     requires least { 3 ≤ disks }
     requires most { disks ≤ 8 }
-    ensures { IfOk result (λ it. IsOfSixteen it) }
+    ensures { IfOk result (λ it. IsOfSixteen R.Rack it) }
 {
     ParityRack::new(alloc, rack, 16, disks)
 }
 
 /// A rack by the headers of its disks.
 pub fn open_rack<R: Rack + Drop>(alloc: Global, rack: R) -> Result<ParityRack<R>, NoMemory>
-    ensures { IfOk result (λ it. IsOfSixteen it) }
+    ensures { IfOk result (λ it. IsOfSixteen R.Rack it) }
 {
     ParityRack::open(alloc, rack)
 }

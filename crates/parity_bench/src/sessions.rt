@@ -137,7 +137,7 @@ fn serve<R: Rack>(
     seen: &Seen,
     lines: &mut Lines,
 ) -> io::Result<()>
-    requires { IsOfSixteen rack.old }
+    requires { IsOfSixteen R.Rack rack.old }
 {
     for line in lines {
         let Some(asked) = asked_by(line) else {

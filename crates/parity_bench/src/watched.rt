@@ -97,6 +97,8 @@ impl<'a, R: Rack> Rack for Watched<'a, R> {
 
     ghost made = { λ a calls b. R.made a.rack calls b.rack };
 
+    ghost handles = { λ a s j b. R.handles a.rack s j b.rack };
+
     fn blank(&mut self, member: u8, length: u64) -> Result<(), Failed> {
         let result = self.rack.blank(member, length);
         self.seen.note(member, result.is_err());

@@ -23,6 +23,7 @@ loop-number-preserved c =
             disks = c.new-group.ensures.disks;
             size = c.new-group.ensures.size;
             told = c.new-group.ensures.told;
+            remade = c.new-group.ensures.remade;
             sure = c.new-group.ensures.sure;
             out = c.new-group.ensures.out;
             lost = c.new-group.ensures.lost;

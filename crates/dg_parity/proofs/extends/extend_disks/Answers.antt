@@ -24,7 +24,7 @@ extend_each-requires g c =
 pub returns-clause-grows : goal.returns-clause-grows
 returns-clause-grows g c =
     grows-of g.R.Rack c.args.size c.disk_length-long.result c.args.group.now c.grow.new.self c.extend_each.new.group c.args.rack.now c.extend_each.new.rack
-    c.grow.ensures.same c.grow.ensures.size c.disk_length-long.ensures c.requires.longer c.requires.ready c.extend_each.ensures.extended
+    c.grow.ensures.same c.grow.ensures.size c.grow.ensures.remade c.disk_length-long.ensures c.requires.longer c.requires.ready c.extend_each.ensures.extended
 
 pub returns-clause-calls : goal.returns-clause-calls
 returns-clause-calls g c = omega (arith, c.extend_each.ensures.calls, c.grow.ensures.same.disks)

@@ -39,6 +39,7 @@ returns-then-not-write_noted-clause-leaves g c =
         told = λ h. absurd (false≢true h);
         telling = λ h alive. absurd (false≢true (sym alive ∙ lost));
         sure = f.later.sure;
+        remade = f.later.remade;
       };
       cause = f.cause;
       ready = record { first = f.ready.first; stands = f.ready.stands; room = f.ready.room; heads = f.ready.heads };

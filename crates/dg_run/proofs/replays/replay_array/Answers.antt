@@ -22,7 +22,7 @@ ended first second = first ∙ ap (λ it. outer (rack_in it)) second
 blank : (g : _) (c : In_ok-array g) → IsBlankReady g.R.Rack c.args.shape (rack_in c.in_ok-live.live) c.in_ok-array.array
 blank g c =
     let l = c.in_ok-live.ensures in
-    blank_ready g.R.Rack g.met.R.Rack.made_none g.met.R.Rack.made_both g.met.R.Rack.after c.args.shape c.in_ok-live.live c.in_ok-array.array c.requires.shape l.live l.none c.in_ok-array.ensures
+    blank_ready g.R.Rack g.met.R.Rack.made_none g.met.R.Rack.made_both g.met.R.Rack.after c.requires.pairs c.args.shape c.in_ok-live.live c.in_ok-array.array c.requires.shape l.live l.none c.in_ok-array.ensures
 
 -- and what became of it
 made : (g : _) (c : After-drop-array g) → IsBlankReady g.R.Rack c.args.shape (rack_in c.in_ok-live.live) c.in_ok-array.array
@@ -42,7 +42,7 @@ means : (g : _) (c : After-drop-array g) → IsBlankReady g.R.Rack c.args.shape 
     → Meant g.R.Rack (Ran (g.R.Rack.counts (behind c.args.stop)) (g.R.Rack.counts (outer (below_of c.serve_array-status.new.array))) (g.R.Rack.bytes (behind c.args.stop))
     (g.R.Rack.bytes (outer (below_of c.serve_array-status.new.array))) (g.R.Rack.steady (behind c.args.stop)) (g.R.Rack.tells (outer (below_of c.serve_array-status.new.array))))
     (first_line c.args.stop c.args.shape) c.args.shape c.args.first c.in_ok-array.array c.serve_array-status.new.array
-means g c n = meant g.R.Rack g.met.R.Rack.made_none g.met.R.Rack.made_both g.met.R.Rack.after c.args.stop c.args.shape c.args.first (rack_in c.in_ok-live.live) c.in_ok-array.array c.serve_array-status.new.array (made g c n)
+means g c n = meant g.R.Rack g.met.R.Rack.made_none g.met.R.Rack.made_both g.met.R.Rack.after c.requires.pairs c.args.stop c.args.shape c.args.first (rack_in c.in_ok-live.live) c.in_ok-array.array c.serve_array-status.new.array (made g c n)
 
 pub serve_array-status-requires-clause-ready : goal.serve_array-status-requires-clause-ready
 serve_array-status-requires-clause-ready g c = (blank g (goal.at.serve_array-status-requires-clause-ready g c).In_ok-array).ready
@@ -66,10 +66,10 @@ returns-clause-part g c is text line =
 pub returns-clause-wanting : goal.returns-clause-wanting
 returns-clause-wanting g c is text line whole =
     let ready = blank g (goal.at.returns-clause-wanting g c).In_ok-array in
-    let led = was_led g.R.Rack g.met.R.Rack.made_none g.met.R.Rack.made_both g.met.R.Rack.after c.args.stop c.args.shape c.args.first (rack_in c.in_ok-live.live) c.in_ok-array.array c.serve_array-status.new.array (made g c ready) in
+    let led = was_led g.R.Rack g.met.R.Rack.made_none g.met.R.Rack.made_both g.met.R.Rack.after c.requires.pairs c.args.stop c.args.shape c.args.first (rack_in c.in_ok-live.live) c.in_ok-array.array c.serve_array-status.new.array (made g c ready) in
     rw (ended c.outer.ensures c.into_rack.ensures) (array_ran_out g.R.Rack g.met.R.Rack.made_none g.met.R.Rack.made_both g.met.R.Rack.after _ _ _ _ _ _ (means g c ready) _ _ led text _ _ _ _ line whole (c.serve_array-status.ensures.wanting is))
 
 pub returns-clause-name : goal.returns-clause-name
 returns-clause-name g c =
-    rw (ended c.outer.ensures c.into_rack.ensures) (same_name g.R.Rack g.met.R.Rack.made_none g.met.R.Rack.made_both g.met.R.Rack.after c.args.stop c.args.shape c.args.first (rack_in c.in_ok-live.live) c.in_ok-array.array c.serve_array-status.new.array
+    rw (ended c.outer.ensures c.into_rack.ensures) (same_name g.R.Rack g.met.R.Rack.made_none g.met.R.Rack.made_both g.met.R.Rack.after c.requires.pairs c.args.stop c.args.shape c.args.first (rack_in c.in_ok-live.live) c.in_ok-array.array c.serve_array-status.new.array
     (made g c (blank g (goal.at.returns-clause-name g c).In_ok-array)))

@@ -19,7 +19,7 @@ resume_array-status-requires g c =
     let a : Running g.row.R.Denot = record { volume = c.in-Opened.volume; hot = c.in-Opened.hot } in
     record {
       ready = ready_opened g.R.Rack law.made_none law.made_both law.after c.args.rack c.in_ok-saved.saved.live c.in_ok-saved.saved.extra.items c.in_ok-saved.ensures
-          c.extra_bytes_are_unique.ensures a answers;
+          c.extra_bytes_are_unique.ensures a answers c.requires.pairs;
     }
 
 pub returns-in-Opened-clause-ends : goal.returns-in-Opened-clause-ends
@@ -29,7 +29,7 @@ returns-in-Opened-clause-ends g c =
     let s = c.resume_array-status in
     let a : Running g.row.R.Denot = record { volume = c.in-Opened.volume; hot = c.in-Opened.hot } in
     let all = ends_opened g.R.Rack law.made_none law.made_both law.after c.args.rack c.in_ok-saved.saved.live c.in_ok-saved.saved.extra.items c.in_ok-saved.ensures
-    c.extra_bytes_are_unique.ensures a answers s.new.array s.ensures.goes
+    c.extra_bytes_are_unique.ensures a answers c.requires.pairs s.new.array s.ensures.goes
     (g.S.Source.left c.args.source.now) (g.S.Source.left s.new.source) (g.K.Sink.taken c.args.sink.now) (g.K.Sink.taken s.new.sink)
     (unread c.in_ok-input.input) (unread s.new.input) c.in_ok-input.ensures
     s.result s.ensures.done s.ensures.bad_line s.ensures.broken s.ensures.part s.ensures.wanting s.ensures.never in
@@ -44,7 +44,7 @@ returns-in-Opened-clause-name g c =
     let a : Running g.row.R.Denot = record { volume = c.in-Opened.volume; hot = c.in-Opened.hot } in
     ap g.R.Rack.name (c.outer.ensures ∙ ap (λ it. outer (rack_in it)) c.into_rack.ensures)
     ∙ name_opened g.R.Rack law.made_none law.made_both law.after c.args.rack c.in_ok-saved.saved.live c.in_ok-saved.saved.extra.items c.in_ok-saved.ensures
-    c.extra_bytes_are_unique.ensures a answers s.new.array s.ensures.goes
+    c.extra_bytes_are_unique.ensures a answers c.requires.pairs s.new.array s.ensures.goes
 
 pub returns-in-NoState-clause-ends : goal.returns-in-NoState-clause-ends
 returns-in-NoState-clause-ends g c =

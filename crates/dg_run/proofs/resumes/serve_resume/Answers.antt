@@ -12,4 +12,4 @@ pub returns-in-Ok-clause-ends : goal.returns-in-Ok-clause-ends
 returns-in-Ok-clause-ends g c =
     let end = c.in-Ok.end in
     let same : end.rack.now ≡ c.rack-1.given.0 = search rules in
-    subst (λ (r : g.row.R.Denot). EndsResumed (g.R.Rack.steady c.args.rack.now) (g.R.Rack.tells r) (facts_of g.S.Source g.K.Sink g.R.Rack c.args.source.now c.resume.new.source c.args.sink.now c.resume.new.sink c.args.rack.now r) end.status) same c.in-Ok.ensures.ends
+    subst (λ (r : g.row.R.Denot). EndsResumed (g.R.Rack.steady c.args.rack.now) (g.R.Rack.tells r) (facts_of g.S.Source g.K.Sink g.R.Rack c.args.source.now c.resume_plain.new.source c.args.sink.now c.resume_plain.new.sink c.args.rack.now r) end.status) same c.in-Ok.ensures.ends

@@ -1,6 +1,6 @@
 use Rattle.std.proofs.Common.{◌≡◌, ◌∙◌, ℕ, List, ap, refl}
 use Rattle.dg_model.specs.Blocks.{padded}
-use Rattle.dg_run.proofs.ArraySteps.{disk_pairs, disk_steps, steps_as, steps_hot, steps_sized}
+use Rattle.dg_run.proofs.ArraySteps.{steps_as, steps_hot, steps_sized}
 use Rattle.dg_run.proofs.Runs.{goes_none}
 use Rattle.dg_run.specs.Steps.{shape_of}
 use Rattle.dg_run.proofs.serve.reply_to.Goals as goal
@@ -36,41 +36,32 @@ pub returns-in-Home-clause-steps : goal.returns-in-Home-clause-steps
 returns-in-Home-clause-steps g c =
     steps_as g.R.Rack c.args.array.now (record c.args.array.now { volume = c.home.new.self }) c.in-Home.is c.home_reply.ensures tt refl (rw c.as_slice-in-Home.ensures at c.home.ensures.steps)
 
-pub returns-in-DropDisk-clause-steps : goal.returns-in-DropDisk-clause-steps
-returns-in-DropDisk-clause-steps g c = disk_steps g.R.Rack c.args.array.now c.args.event.now c.in-DropDisk.is
+pub returns-in_ok-write_block-in-Write-clause-of_room : goal.returns-in_ok-write_block-in-Write-clause-of_room
+returns-in_ok-write_block-in-Write-clause-of_room g c room = rw c.in-Write.is tt
 
-pub returns-in_ok-write_block-in-Write-clause-of_pairs : goal.returns-in_ok-write_block-in-Write-clause-of_pairs
-returns-in_ok-write_block-in-Write-clause-of_pairs g c room = rw c.in-Write.is tt
+pub returns-in-Fail-clause-of_room : goal.returns-in-Fail-clause-of_room
+returns-in-Fail-clause-of_room g c room = rw c.in-Fail.is tt
 
-pub returns-in-Fail-clause-of_pairs : goal.returns-in-Fail-clause-of_pairs
-returns-in-Fail-clause-of_pairs g c room = rw c.in-Fail.is tt
+pub returns-in_ok-settle-in-Settle-clause-of_room : goal.returns-in_ok-settle-in-Settle-clause-of_room
+returns-in_ok-settle-in-Settle-clause-of_room g c room = rw c.in-Settle.is tt
 
-pub returns-in_ok-settle-in-Settle-clause-of_pairs : goal.returns-in_ok-settle-in-Settle-clause-of_pairs
-returns-in_ok-settle-in-Settle-clause-of_pairs g c room = rw c.in-Settle.is tt
+pub returns-in_ok-tend-in-Tend-clause-of_room : goal.returns-in_ok-tend-in-Tend-clause-of_room
+returns-in_ok-tend-in-Tend-clause-of_room g c room = rw c.in-Tend.is tt
 
-pub returns-in_ok-tend-in-Tend-clause-of_pairs : goal.returns-in_ok-tend-in-Tend-clause-of_pairs
-returns-in_ok-tend-in-Tend-clause-of_pairs g c room = rw c.in-Tend.is tt
+pub returns-in_ok-audit-in-Audit-clause-of_room : goal.returns-in_ok-audit-in-Audit-clause-of_room
+returns-in_ok-audit-in-Audit-clause-of_room g c room = rw c.in-Audit.is tt
 
-pub returns-in_ok-audit-in-Audit-clause-of_pairs : goal.returns-in_ok-audit-in-Audit-clause-of_pairs
-returns-in_ok-audit-in-Audit-clause-of_pairs g c room = rw c.in-Audit.is tt
+pub returns-in-Who-clause-of_room : goal.returns-in-Who-clause-of_room
+returns-in-Who-clause-of_room g c room = rw c.in-Who.is tt
 
-pub returns-in-Who-clause-of_pairs : goal.returns-in-Who-clause-of_pairs
-returns-in-Who-clause-of_pairs g c room = rw c.in-Who.is tt
+pub returns-in-Home-clause-of_room : goal.returns-in-Home-clause-of_room
+returns-in-Home-clause-of_room g c room = rw c.in-Home.is tt
 
-pub returns-in-Home-clause-of_pairs : goal.returns-in-Home-clause-of_pairs
-returns-in-Home-clause-of_pairs g c room = rw c.in-Home.is tt
+pub returns-in_ok-rebuild-in-Rebuild-clause-of_room : goal.returns-in_ok-rebuild-in-Rebuild-clause-of_room
+returns-in_ok-rebuild-in-Rebuild-clause-of_room g c room = rw c.in-Rebuild.is tt
 
-pub returns-in_ok-rebuild-in-Rebuild-clause-of_pairs : goal.returns-in_ok-rebuild-in-Rebuild-clause-of_pairs
-returns-in_ok-rebuild-in-Rebuild-clause-of_pairs g c room = rw c.in-Rebuild.is tt
-
-pub returns-in_ok-diffuse-in-Diffuse-clause-of_pairs : goal.returns-in_ok-diffuse-in-Diffuse-clause-of_pairs
-returns-in_ok-diffuse-in-Diffuse-clause-of_pairs g c room = rw c.in-Diffuse.is tt
-
-pub returns-in-DropDisk-clause-of_pairs : goal.returns-in-DropDisk-clause-of_pairs
-returns-in-DropDisk-clause-of_pairs g c = disk_pairs g.R.Rack c.args.array.now c.args.event.now c.in-DropDisk.is
+pub returns-in_ok-diffuse-in-Diffuse-clause-of_room : goal.returns-in_ok-diffuse-in-Diffuse-clause-of_room
+returns-in_ok-diffuse-in-Diffuse-clause-of_room g c room = rw c.in-Diffuse.is tt
 
 pub returns-in-Who-clause-goes : goal.returns-in-Who-clause-goes
 returns-in-Who-clause-goes g c = goes_none g.R.Rack c.args.array.now c.requires.sound
-
-pub returns-in-DropDisk-clause-goes : goal.returns-in-DropDisk-clause-goes
-returns-in-DropDisk-clause-goes g c = goes_none g.R.Rack c.args.array.now c.requires.sound

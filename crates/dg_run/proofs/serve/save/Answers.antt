@@ -19,8 +19,8 @@ pub returns-clause-steps : goal.returns-clause-steps
 returns-clause-steps g c =
     steps_hot g.R.Rack c.args.array.now (record c.args.array.now { volume = c.checkpoint.new.self }) {e = Save} refl c.checkpoint_reply.ensures tt refl c.in_ok-answer.ensures.steps
 
-pub returns-clause-of_pairs : goal.returns-clause-of_pairs
-returns-clause-of_pairs g c =
+pub returns-clause-of_room : goal.returns-clause-of_room
+returns-clause-of_room g c =
     let not = c.in_ok-answer.ensures.not_saved in
     rw c.checkpoint_reply.ensures (kept_pairs g.R.Rack g.R.Checkpoint.room_of c.args.array.now c.in_ok-answer.answer not.0 not.1)
 

@@ -109,3 +109,15 @@ returns-in-Replace-clause-answered g c = rw c.in-Replace.is c.serve_replace.ensu
 
 pub returns-in-Replace-clause-part : goal.returns-in-Replace-clause-part
 returns-in-Replace-clause-part g c is = rw c.in-Replace.is (c.serve_replace.ensures.part is)
+
+pub returns-in-DropDisk-clause-answered : goal.returns-in-DropDisk-clause-answered
+returns-in-DropDisk-clause-answered g c = rw c.in-DropDisk.is c.serve_drop.ensures.answered
+
+pub returns-in-DropDisk-clause-part : goal.returns-in-DropDisk-clause-part
+returns-in-DropDisk-clause-part g c is = rw c.in-DropDisk.is (c.serve_drop.ensures.part is)
+
+pub returns-in-MendDisk-clause-answered : goal.returns-in-MendDisk-clause-answered
+returns-in-MendDisk-clause-answered g c = rw c.in-MendDisk.is c.serve_mend.ensures.answered
+
+pub returns-in-MendDisk-clause-part : goal.returns-in-MendDisk-clause-part
+returns-in-MendDisk-clause-part g c is = rw c.in-MendDisk.is (c.serve_mend.ensures.part is)

@@ -12,7 +12,7 @@ replied : (g : _) (c : Joined-reply g) → Serves g.R.Rack c.args.event.now (g.K
 replied g c =
     let by = goes_plain g.R.Rack g.met.R.Rack.made_none g.met.R.Rack.made_both g.met.R.Rack.after c.args.event.now c.requires.plain c.args.array.now c.reply_to.new.array c.requires.ready c.reply_to.ensures.goes in
     serves_reply g.R.Rack g.met.R.Rack.made_none g.met.R.Rack.made_both g.met.R.Rack.after c.args.event.now c.in-Ok.reply _ _ c.args.array.now c.reply_to.new.array c.send.result by.on
-    (runs_of g.R.Rack g.met.R.Rack.made_none g.met.R.Rack.made_both g.met.R.Rack.after c.args.array.now c.reply_to.new.array c.args.event.now c.in-Ok.reply by (c.in-Ok.ensures.of_pairs (base_room (below_of c.args.array.now)))
+    (runs_of g.R.Rack g.met.R.Rack.made_none g.met.R.Rack.made_both g.met.R.Rack.after c.args.array.now c.reply_to.new.array c.args.event.now c.in-Ok.reply by (c.in-Ok.ensures.of_room (base_room (below_of c.args.array.now)))
     (plain_keeping g.R.Rack c.args.event.now c.in-Ok.reply c.args.array.now c.reply_to.new.array c.requires.plain) c.in-Ok.ensures.steps)
     c.send.ensures.ok c.send.ensures.part c.send.ensures.err
 

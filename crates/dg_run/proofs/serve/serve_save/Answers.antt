@@ -10,7 +10,7 @@ saved : (g : _) (c : Joined-reply g) → Serves g.R.Rack Save (g.K.Sink.taken c.
 saved g c =
     let by = goes_saved g.R.Rack g.met.R.Rack.made_none g.met.R.Rack.made_both g.met.R.Rack.after c.args.array.now c.save.new.array c.requires.ready c.save.ensures.goes in
     serves_reply g.R.Rack g.met.R.Rack.made_none g.met.R.Rack.made_both g.met.R.Rack.after Save c.in-Ok.reply _ _ c.args.array.now c.save.new.array c.send.result by.on
-    (runs_of g.R.Rack g.met.R.Rack.made_none g.met.R.Rack.made_both g.met.R.Rack.after c.args.array.now c.save.new.array Save c.in-Ok.reply by c.in-Ok.ensures.of_pairs
+    (runs_of g.R.Rack g.met.R.Rack.made_none g.met.R.Rack.made_both g.met.R.Rack.after c.args.array.now c.save.new.array Save c.in-Ok.reply by c.in-Ok.ensures.of_room
     (c.requires.ready, c.in-Ok.ensures.saved) c.in-Ok.ensures.steps) c.send.ensures.ok c.send.ensures.part c.send.ensures.err
 
 pub returns-in-Ok-clause-goes : goal.returns-in-Ok-clause-goes

@@ -2,4 +2,4 @@ use Rattle.parity_bench.specs.Shapes.{IsOfSixteen}
 use Rattle.parity_bench.proofs.groups.mend_all.Given as goal
 
 abbrev pub invariant-loop : goal.invariant-loop
-invariant-loop g l = IsOfSixteen l.rack
+invariant-loop g l = IsOfSixteen g.R.Rack l.rack

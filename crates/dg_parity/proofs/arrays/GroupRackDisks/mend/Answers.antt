@@ -1,10 +1,11 @@
-use Rattle.std.proofs.Common.{◌≡◌, ◌<◌, ℕ, length, refl, sym, ap, subst, ◌∙◌}
+use Rattle.std.proofs.Common.{◌≡◌, ◌<◌, ℕ, length, sym, ap, subst, ◌∙◌}
 use Rattle.dg_io.specs.DiskAnswers.{MendsDisk, LeavesMembers, OneDisk}
-use Rattle.dg_parity.proofs.ArraySteps.{held_on, member-group, members_on}
+use Rattle.dg_parity.proofs.ArraySteps.{held_on, members_on, handles_on}
+use Rattle.dg_parity.specs.DiskLaws.{member_group}
 use Rattle.std.specs.Prelude.{slice_get}
 use Rattle.dg_parity.specs.ArrayCalls.{mends_of}
 use Rattle.dg_parity.specs.Groups.{MostCalls}
-use Rattle.dg_parity.specs.Arrays.{GoesOn, Grouped, grouped_disks, grouped_words, is_noted}
+use Rattle.dg_parity.specs.Arrays.{GoesOn, Grouped, GroupedHandles, grouped_disks, grouped_rack, is_noted, states_in}
 use Rattle.dg_parity.proofs.arrays.GroupRackDisks.mend.Goals as goal
 
 pub mend_at-requires : goal.mend_at-requires
@@ -26,41 +27,42 @@ returns-clause-answer g c =
     let new : Grouped g.row.R.Denot = record { rack = c.mend_at.new.rack; width = c.self.inside.width; groups = c.mend_at.new.groups.items; tally = c.self.inside.tally } in
     let at : (c.args.s < length old.groups) × (c.args.j < old.width) = subst (λ (it : Grouped g.row.R.Denot). (c.args.s < length it.groups) × (c.args.j < it.width)) (sym c.self.view_is) c.requires.place in
     subst (λ (it : Grouped g.row.R.Denot). MendsDisk it.width c.args.s c.args.j (grouped_disks g.R.Rack it) (grouped_disks g.R.Rack new) c.mend_at.result) c.self.view_is
-    (subst (λ (n : ℕ). MendsDisk n c.args.s c.args.j (grouped_disks g.R.Rack old) (grouped_disks g.R.Rack new) c.mend_at.result) (c.self.invariant.widths c.args.s at.0) c.mend_at.ensures.answer)
+    (subst (λ (n : ℕ). MendsDisk n c.args.s c.args.j (states_in g.R.Rack n old.groups old.rack) (states_in g.R.Rack n new.groups new.rack) c.mend_at.result) (c.self.invariant.widths c.args.s at.0) c.mend_at.ensures.answer)
 
 pub returns-clause-disks : goal.returns-clause-disks
 returns-clause-disks g c =
     let old : Grouped g.row.R.Denot = record { rack = c.self.inside.rack; width = c.self.inside.width; groups = c.self.inside.groups.items; tally = c.self.inside.tally } in
     let new : Grouped g.row.R.Denot = record { rack = c.mend_at.new.rack; width = c.self.inside.width; groups = c.mend_at.new.groups.items; tally = c.self.inside.tally } in
     let at : (c.args.s < length old.groups) × (c.args.j < old.width) = subst (λ (it : Grouped g.row.R.Denot). (c.args.s < length it.groups) × (c.args.j < it.width)) (sym c.self.view_is) c.requires.place in
-    subst (λ (it : Grouped g.row.R.Denot). OneDisk c.args.s c.args.j (grouped_disks g.R.Rack it) (grouped_disks g.R.Rack new)) c.self.view_is c.mend_at.ensures.steps.one
+    subst (λ (it : Grouped g.row.R.Denot). OneDisk c.args.s c.args.j (grouped_disks g.R.Rack it) (grouped_disks g.R.Rack new)) c.self.view_is (c.mend_at.ensures.steps.one c.self.inside.width)
 
 pub returns-clause-leaves : goal.returns-clause-leaves
 returns-clause-leaves g c =
-    let old : Grouped g.row.R.Denot = record { rack = c.self.inside.rack; width = c.self.inside.width; groups = c.self.inside.groups.items; tally = c.self.inside.tally } in
     let new : Grouped g.row.R.Denot = record { rack = c.mend_at.new.rack; width = c.self.inside.width; groups = c.mend_at.new.groups.items; tally = c.self.inside.tally } in
-    let at : (c.args.s < length old.groups) × (c.args.j < old.width) = subst (λ (it : Grouped g.row.R.Denot). (c.args.s < length it.groups) × (c.args.j < it.width)) (sym c.self.view_is) c.requires.place in
-    let h = subst (λ (it : Grouped g.row.R.Denot). LeavesMembers (grouped_words g.R.Rack) it new) c.self.view_is (members_on g.R.Rack c.args.s c.args.j old new c.mend_at.ensures.steps refl) in
-    record {
-      same_rack = h.same_rack;
-      steady_on = h.steady_on;
-      counts_stay = h.counts_stay;
-      stand = h.stand;
-      same = h.same;
-      told_before = h.told_before;
-      keeps_on = h.keeps_on;
-    }
+    subst (λ (it : Grouped g.row.R.Denot). LeavesMembers (grouped_rack g.R.Rack) c.args.s it new) c.self.view_is
+    (members_on g.R.Rack c.args.s c.args.j c.self.inside.width c.self.inside.groups.items c.mend_at.new.groups.items c.self.inside.rack c.mend_at.new.rack c.self.inside.tally c.self.invariant c.mend_at.ensures.steps)
 
-pub returns-clause-groups : goal.returns-clause-groups
-returns-clause-groups g c = subst (λ (it : Grouped g.row.R.Denot). length c.mend_at.new.groups.items ≡ length it.groups) c.self.view_is c.mend_at.ensures.steps.count
+pub returns-clause-handles : goal.returns-clause-handles
+returns-clause-handles g c some =
+    let new : Grouped g.row.R.Denot = record { rack = c.mend_at.new.rack; width = c.self.inside.width; groups = c.mend_at.new.groups.items; tally = c.self.inside.tally } in
+    subst (λ (it : Grouped g.row.R.Denot). GroupedHandles g.R.Rack it c.args.s c.args.j new) c.self.view_is
+    (handles_on g.R.Rack c.args.s c.args.j c.self.inside.width c.self.inside.groups.items c.mend_at.new.groups.items c.self.inside.rack c.mend_at.new.rack c.self.inside.tally c.self.invariant c.mend_at.ensures.steps)
 
 pub returns-clause-goes_on : goal.returns-clause-goes_on
 returns-clause-goes_on g c =
     subst (λ (s : Grouped g.row.R.Denot). GoesOn g.R.Rack s.groups c.mend_at.new.groups.items s.rack c.mend_at.new.rack) c.self.view_is c.mend_at.ensures.goes_on
 
 pub returns-clause-noted : goal.returns-clause-noted
-returns-clause-noted g c n is = ap is_noted (member-group c.mend_at.new.groups.items c.args.s) ∙ c.mend_at.ensures.noted n is
+returns-clause-noted g c n is = ap is_noted (member_group c.mend_at.new.groups.items c.args.s) ∙ c.mend_at.ensures.noted n is
 
 pub returns-clause-calls : goal.returns-clause-calls
 returns-clause-calls g c =
     subst (λ (s : Grouped g.row.R.Denot). MostCalls g.R.Rack (mends_of (slice_get s.groups c.args.s)) s.rack c.mend_at.new.rack) c.self.view_is c.mend_at.ensures.calls
+
+pub returns-clause-not_out : goal.returns-clause-not_out
+returns-clause-not_out g c is =
+    let old : Grouped g.row.R.Denot = record { rack = c.self.inside.rack; width = c.self.inside.width; groups = c.self.inside.groups.items; tally = c.self.inside.tally } in
+    let new : Grouped g.row.R.Denot = record { rack = c.mend_at.new.rack; width = c.self.inside.width; groups = c.mend_at.new.groups.items; tally = c.self.inside.tally } in
+    let at = c.mend_at.ensures.not_out is in
+    let same : new ≡ old = λ i. record { rack = at.1 i; width = c.self.inside.width; groups = at.0 i; tally = c.self.inside.tally } in
+    same ∙ c.self.view_is

@@ -4,7 +4,7 @@ use Rattle.dg_io.specs.RackCalls.RackCall.{looks}
 use Rattle.dg_io.specs.RackWords.{Leaves}
 use Rattle.dg_io.specs.Told.{IsEmpty, IsSame, Measures, Told}
 use Rattle.dg_parity.proofs.ArrayLemmas.{steps-none}
-use Rattle.dg_parity.proofs.ArraySteps.{absent_empty, found_measures, found_stands, leaves_grouped, made_grouped, tally_of}
+use Rattle.dg_parity.proofs.ArraySteps.{look_facts, absent_empty, found_measures, found_stands, leaves_grouped, made_grouped, tally_of}
 use Rattle.dg_parity.proofs.GoesOnLemmas.{goes_none}
 use Rattle.dg_parity.proofs.GroupLemmas.{same-self}
 use Rattle.dg_parity.specs.Arrays.{Grouped, GroupedMade, group_at, grouped_bytes, grouped_words, is_unmade, serves, size_at, GoesOn, IsShaped, is_fallen}
@@ -21,7 +21,7 @@ returns-clause-leaves g c =
     let r = c.find_at-result.result in
     let old : Grouped g.row.R.Denot = record { rack = c.self.inside.rack; width = c.self.inside.width; groups = c.self.inside.groups.items; tally = c.self.inside.tally } in
     let new : Grouped g.row.R.Denot = record { rack = c.self.inside.rack; width = c.self.inside.width; groups = c.self.inside.groups.items; tally = c.note.new.self } in
-    subst (λ (s : Grouped g.row.R.Denot). Leaves (grouped_words g.R.Rack) m r s new) c.self.view_is (leaves_grouped g.R.Rack (looks m) m refl r old new (steps-none g.R.Rack m c.self.inside.groups.items c.self.inside.rack c.self.invariant.kept) (tally_of m r c.is_err.result c.self.inside.tally c.note.new.self c.is_err.ensures.value c.note.ensures.notes))
+    subst (λ (s : Grouped g.row.R.Denot). Leaves (grouped_words g.R.Rack) m r s new) c.self.view_is (leaves_grouped g.R.Rack (looks m) m refl r old new (steps-none g.R.Rack m c.self.inside.groups.items c.self.inside.rack c.self.invariant.kept) (tally_of m r c.is_err.result c.self.inside.tally c.note.new.self c.is_err.ensures.value c.note.ensures.notes) (look_facts g.R.Rack m c.self.inside.width r c.self.inside.groups.items c.self.inside.rack c.self.inside.tally c.note.new.self (subst (λ (l : List Group). OnErr r (is_fallen (group_at l m) ≡ true)) c.deref.ensures.value c.find_at-result.ensures.fails)))
 
 pub returns-clause-made : goal.returns-clause-made
 returns-clause-made g c =
@@ -30,7 +30,7 @@ returns-clause-made g c =
     let old : Grouped g.row.R.Denot = record { rack = c.self.inside.rack; width = c.self.inside.width; groups = c.self.inside.groups.items; tally = c.self.inside.tally } in
     let new : Grouped g.row.R.Denot = record { rack = c.self.inside.rack; width = c.self.inside.width; groups = c.self.inside.groups.items; tally = c.note.new.self } in
     subst (λ (s : Grouped g.row.R.Denot). GroupedMade g.R.Rack s (looks m ∷ []) new) c.self.view_is
-    (made_grouped g.R.Rack (looks m) m refl r old new (steps-none g.R.Rack m c.self.inside.groups.items c.self.inside.rack c.self.invariant.kept) (tally_of m r c.is_err.result c.self.inside.tally c.note.new.self c.is_err.ensures.value c.note.ensures.notes) refl (λ s j no was. was))
+    (made_grouped g.R.Rack (looks m) m refl r old new (steps-none g.R.Rack m c.self.inside.groups.items c.self.inside.rack c.self.invariant.kept) (tally_of m r c.is_err.result c.self.inside.tally c.note.new.self c.is_err.ensures.value c.note.ensures.notes) (look_facts g.R.Rack m c.self.inside.width r c.self.inside.groups.items c.self.inside.rack c.self.inside.tally c.note.new.self (subst (λ (l : List Group). OnErr r (is_fallen (group_at l m) ≡ true)) c.deref.ensures.value c.find_at-result.ensures.fails)) c.self.invariant.widths refl (λ s j no was. was))
 
 pub returns-clause-writes : goal.returns-clause-writes
 returns-clause-writes g c =
@@ -68,7 +68,8 @@ returns-clause-stands g c =
     let r = c.find_at-result.result in
     let old : Grouped g.row.R.Denot = record { rack = c.self.inside.rack; width = c.self.inside.width; groups = c.self.inside.groups.items; tally = c.self.inside.tally } in
     let new : Grouped g.row.R.Denot = record { rack = c.self.inside.rack; width = c.self.inside.width; groups = c.self.inside.groups.items; tally = c.note.new.self } in
-    found_stands r
+    found_stands r (serves c.self.inside.groups.items m) (size_at c.self.inside.groups.items m)
+    (subst (λ (l : List Group). IfOk r (λ found. IfSome found (λ n. (serves l m ≡ true) × (n ≡ size_at l m)))) c.deref.ensures.value c.find_at-result.ensures.found)
 
 pub returns-clause-shape : goal.returns-clause-shape
 returns-clause-shape g c =

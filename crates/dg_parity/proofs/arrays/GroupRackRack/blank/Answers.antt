@@ -1,11 +1,11 @@
-use Rattle.std.proofs.Common.{◌≡◌, [], ◌∷◌, refl, subst, true}
+use Rattle.std.proofs.Common.{[], ◌∷◌, refl, subst}
 use Rattle.std.specs.Prelude.{OnOk}
 use Rattle.dg_io.specs.Kept.{KeepsRest}
 use Rattle.dg_io.specs.RackCalls.RackCall.{blanks}
 use Rattle.dg_io.specs.RackWords.{Leaves}
 use Rattle.dg_io.specs.Told.{IsZeros, Told}
 use Rattle.dg_model.specs.Causes.{RoseByOne}
-use Rattle.dg_parity.proofs.ArraySteps.{blank_back, ok_on, held_after, leaves_grouped, made_grouped, tally_of}
+use Rattle.dg_parity.proofs.ArraySteps.{blank_facts, blank_back, held_after, leaves_grouped, made_grouped, tally_of}
 use Rattle.dg_parity.specs.Arrays.{Grouped, GroupedMade, grouped_bytes, grouped_keeps, grouped_stands, grouped_words, IsShaped, GoesOn}
 use Rattle.dg_parity.proofs.arrays.GroupRackRack.blank.Goals as goal
 
@@ -27,7 +27,7 @@ returns-clause-leaves g c =
     let r = c.blank_at-result.result in
     let old : Grouped g.row.R.Denot = record { rack = c.self.inside.rack; width = c.self.inside.width; groups = c.self.inside.groups.items; tally = c.self.inside.tally } in
     let new : Grouped g.row.R.Denot = record { rack = c.blank_at-result.new.rack; width = c.self.inside.width; groups = c.blank_at-result.new.groups.items; tally = c.note_write.new.self } in
-    subst (λ (s : Grouped g.row.R.Denot). Leaves (grouped_words g.R.Rack) m r s new) c.self.view_is (leaves_grouped g.R.Rack (blanks m) m refl r old new c.blank_at-result.ensures.steps (tally_of m r c.is_err.result c.self.inside.tally c.note_write.new.self c.is_err.ensures.value c.note_write.ensures.notes))
+    subst (λ (s : Grouped g.row.R.Denot). Leaves (grouped_words g.R.Rack) m r s new) c.self.view_is (leaves_grouped g.R.Rack (blanks m) m refl r old new c.blank_at-result.ensures.steps (tally_of m r c.is_err.result c.self.inside.tally c.note_write.new.self c.is_err.ensures.value c.note_write.ensures.notes) (blank_facts g.R.Rack m r old new c.blank_at-result.ensures.alive c.blank_at-result.ensures.made c.blank_at-result.ensures.anew))
 
 pub returns-clause-made : goal.returns-clause-made
 returns-clause-made g c =
@@ -36,8 +36,8 @@ returns-clause-made g c =
     let old : Grouped g.row.R.Denot = record { rack = c.self.inside.rack; width = c.self.inside.width; groups = c.self.inside.groups.items; tally = c.self.inside.tally } in
     let new : Grouped g.row.R.Denot = record { rack = c.blank_at-result.new.rack; width = c.self.inside.width; groups = c.blank_at-result.new.groups.items; tally = c.note_write.new.self } in
     subst (λ (s : Grouped g.row.R.Denot). GroupedMade g.R.Rack s (blanks m ∷ []) new) c.self.view_is
-    (made_grouped g.R.Rack (blanks m) m refl r old new c.blank_at-result.ensures.steps (tally_of m r c.is_err.result c.self.inside.tally c.note_write.new.self c.is_err.ensures.value c.note_write.ensures.notes) refl
-    (blank_back g.R.Rack (blanks m) m refl r old new c.blank_at-result.ensures.steps (tally_of m r c.is_err.result c.self.inside.tally c.note_write.new.self c.is_err.ensures.value c.note_write.ensures.notes)))
+    (made_grouped g.R.Rack (blanks m) m refl r old new c.blank_at-result.ensures.steps (tally_of m r c.is_err.result c.self.inside.tally c.note_write.new.self c.is_err.ensures.value c.note_write.ensures.notes) (blank_facts g.R.Rack m r old new c.blank_at-result.ensures.alive c.blank_at-result.ensures.made c.blank_at-result.ensures.anew) c.self.invariant.widths refl
+    (blank_back g.R.Rack m c.self.inside.groups.items c.blank_at-result.new.groups.items c.self.inside.rack c.blank_at-result.new.rack c.blank_at-result.ensures.steps))
 
 pub returns-clause-writes : goal.returns-clause-writes
 returns-clause-writes g c =
@@ -67,7 +67,7 @@ returns-clause-stands g c =
     let r = c.blank_at-result.result in
     let old : Grouped g.row.R.Denot = record { rack = c.self.inside.rack; width = c.self.inside.width; groups = c.self.inside.groups.items; tally = c.self.inside.tally } in
     let new : Grouped g.row.R.Denot = record { rack = c.blank_at-result.new.rack; width = c.self.inside.width; groups = c.blank_at-result.new.groups.items; tally = c.note_write.new.self } in
-    ok_on r (true ≡ true) refl
+    c.blank_at-result.ensures.alive
 
 pub returns-clause-shape : goal.returns-clause-shape
 returns-clause-shape g c =

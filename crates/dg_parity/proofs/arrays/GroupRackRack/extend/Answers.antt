@@ -1,10 +1,10 @@
-use Rattle.std.proofs.Common.{◌≡◌, [], ◌∷◌, refl, subst, ◌⊎◌, ◌<◌, false}
-use Rattle.std.specs.Prelude.{OnErr, OnOk}
+use Rattle.std.proofs.Common.{◌≡◌, [], ◌∷◌, refl, subst, ◌⊎◌, ◌<◌, false, sym, true}
+use Rattle.std.specs.Prelude.{OnErr, OnOk, IfSome}
 use Rattle.dg_io.specs.RackCalls.RackCall.{extends}
 use Rattle.dg_io.specs.RackWords.{Leaves}
-use Rattle.dg_io.specs.Told.{Extended, KeepsFront, Told}
+use Rattle.dg_io.specs.Told.{Extended, FitsIn, KeepsFront, Told}
 use Rattle.dg_model.specs.Causes.{RoseByOne}
-use Rattle.dg_parity.proofs.ArraySteps.{front_of, held_after, leaves_grouped, made_grouped, tally_of}
+use Rattle.dg_parity.proofs.ArraySteps.{longer_facts, front_of, held_after, leaves_grouped, made_grouped, tally_of}
 use Rattle.dg_parity.specs.Arrays.{Grouped, GroupedMade, grouped_bytes, grouped_words, IsShaped, serves, size_at, GoesOn}
 use Rattle.dg_parity.proofs.arrays.GroupRackRack.extend.Goals as goal
 
@@ -26,7 +26,7 @@ returns-clause-leaves g c =
     let r = c.extend_at-result.result in
     let old : Grouped g.row.R.Denot = record { rack = c.self.inside.rack; width = c.self.inside.width; groups = c.self.inside.groups.items; tally = c.self.inside.tally } in
     let new : Grouped g.row.R.Denot = record { rack = c.extend_at-result.new.rack; width = c.self.inside.width; groups = c.extend_at-result.new.groups.items; tally = c.note_write.new.self } in
-    subst (λ (s : Grouped g.row.R.Denot). Leaves (grouped_words g.R.Rack) m r s new) c.self.view_is (leaves_grouped g.R.Rack (extends m) m refl r old new c.extend_at-result.ensures.steps (tally_of m r c.is_err.result c.self.inside.tally c.note_write.new.self c.is_err.ensures.value c.note_write.ensures.notes))
+    subst (λ (s : Grouped g.row.R.Denot). Leaves (grouped_words g.R.Rack) m r s new) c.self.view_is (leaves_grouped g.R.Rack (extends m) m refl r old new c.extend_at-result.ensures.steps (tally_of m r c.is_err.result c.self.inside.tally c.note_write.new.self c.is_err.ensures.value c.note_write.ensures.notes) (longer_facts g.R.Rack (extends m) m r old new c.extend_at-result.ensures.steps (subst (λ (s : Grouped g.row.R.Denot). serves s.groups m ≡ true) (sym c.self.view_is) c.requires.stands) c.extend_at-result.ensures.alive c.args.length (subst (λ (s : Grouped g.row.R.Denot). IfSome (grouped_bytes g.R.Rack s m) (FitsIn c.args.length)) (sym c.self.view_is) c.requires.longer) c.extend_at-result.ensures.fails))
 
 pub returns-clause-made : goal.returns-clause-made
 returns-clause-made g c =
@@ -35,7 +35,7 @@ returns-clause-made g c =
     let old : Grouped g.row.R.Denot = record { rack = c.self.inside.rack; width = c.self.inside.width; groups = c.self.inside.groups.items; tally = c.self.inside.tally } in
     let new : Grouped g.row.R.Denot = record { rack = c.extend_at-result.new.rack; width = c.self.inside.width; groups = c.extend_at-result.new.groups.items; tally = c.note_write.new.self } in
     subst (λ (s : Grouped g.row.R.Denot). GroupedMade g.R.Rack s (extends m ∷ []) new) c.self.view_is
-    (made_grouped g.R.Rack (extends m) m refl r old new c.extend_at-result.ensures.steps (tally_of m r c.is_err.result c.self.inside.tally c.note_write.new.self c.is_err.ensures.value c.note_write.ensures.notes) refl
+    (made_grouped g.R.Rack (extends m) m refl r old new c.extend_at-result.ensures.steps (tally_of m r c.is_err.result c.self.inside.tally c.note_write.new.self c.is_err.ensures.value c.note_write.ensures.notes) (longer_facts g.R.Rack (extends m) m r old new c.extend_at-result.ensures.steps (subst (λ (s : Grouped g.row.R.Denot). serves s.groups m ≡ true) (sym c.self.view_is) c.requires.stands) c.extend_at-result.ensures.alive c.args.length (subst (λ (s : Grouped g.row.R.Denot). IfSome (grouped_bytes g.R.Rack s m) (FitsIn c.args.length)) (sym c.self.view_is) c.requires.longer) c.extend_at-result.ensures.fails) c.self.invariant.widths refl
     (λ s j no was. c.extend_at-result.ensures.stays s j was))
 
 pub returns-clause-writes : goal.returns-clause-writes

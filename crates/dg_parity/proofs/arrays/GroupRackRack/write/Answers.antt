@@ -1,10 +1,10 @@
-use Rattle.std.proofs.Common.{◌≡◌, true, [], ◌∷◌, refl, subst, ◌⊎◌, ◌+◌, ◌<◌, false, length}
-use Rattle.std.specs.Prelude.{OnErr, OnOk, length}
+use Rattle.std.proofs.Common.{◌≡◌, true, [], ◌∷◌, refl, subst, ◌⊎◌, ◌+◌, ◌<◌, false, length, sym, ◌≤◌}
+use Rattle.std.specs.Prelude.{OnErr, OnOk, length, IfSome}
 use Rattle.dg_io.specs.RackCalls.RackCall.{calls}
 use Rattle.dg_io.specs.RackWords.{Leaves}
 use Rattle.dg_io.specs.Told.{IsHeader, OldOrNew, Patched, Told, Torn}
 use Rattle.dg_model.specs.Causes.{RoseByOne}
-use Rattle.dg_parity.proofs.ArraySteps.{err_on, held_after, leaves_grouped, made_grouped, tally_of}
+use Rattle.dg_parity.proofs.ArraySteps.{inside_facts, err_on, held_after, leaves_grouped, made_grouped, tally_of}
 use Rattle.dg_parity.specs.ArrayCalls.{quiet_writes_of, writes_of, LeastOf, LeastWithHeaders}
 use Rattle.dg_parity.specs.Groups.{MostCalls}
 use Rattle.dg_parity.specs.Arrays.{group_at, Grouped, GroupedMade, grouped_bytes, grouped_words, IsShaped, serves, size_at, GoesOn, NoneFell, is_noted}
@@ -28,7 +28,7 @@ returns-clause-leaves g c =
     let r = c.write_at-result.result in
     let old : Grouped g.row.R.Denot = record { rack = c.self.inside.rack; width = c.self.inside.width; groups = c.self.inside.groups.items; tally = c.self.inside.tally } in
     let new : Grouped g.row.R.Denot = record { rack = c.write_at-result.new.rack; width = c.self.inside.width; groups = c.write_at-result.new.groups.items; tally = c.note_write.new.self } in
-    subst (λ (s : Grouped g.row.R.Denot). Leaves (grouped_words g.R.Rack) m r s new) c.self.view_is (leaves_grouped g.R.Rack (calls m) m refl r old new c.write_at-result.ensures.steps (tally_of m r c.is_err.result c.self.inside.tally c.note_write.new.self c.is_err.ensures.value c.note_write.ensures.notes))
+    subst (λ (s : Grouped g.row.R.Denot). Leaves (grouped_words g.R.Rack) m r s new) c.self.view_is (leaves_grouped g.R.Rack (calls m) m refl r old new c.write_at-result.ensures.steps (tally_of m r c.is_err.result c.self.inside.tally c.note_write.new.self c.is_err.ensures.value c.note_write.ensures.notes) (inside_facts g.R.Rack (calls m) m r old new c.write_at-result.ensures.steps (subst (λ (s : Grouped g.row.R.Denot). serves s.groups m ≡ true) (sym c.self.view_is) c.requires.stands) c.write_at-result.ensures.alive (c.args.place + length c.args.buf.now) (subst (λ (s : Grouped g.row.R.Denot). IfSome (grouped_bytes g.R.Rack s m) (λ all. c.args.place + length c.args.buf.now ≤ length all)) (sym c.self.view_is) c.requires.range) c.write_at-result.ensures.fails))
 
 pub returns-clause-made : goal.returns-clause-made
 returns-clause-made g c =
@@ -37,7 +37,7 @@ returns-clause-made g c =
     let old : Grouped g.row.R.Denot = record { rack = c.self.inside.rack; width = c.self.inside.width; groups = c.self.inside.groups.items; tally = c.self.inside.tally } in
     let new : Grouped g.row.R.Denot = record { rack = c.write_at-result.new.rack; width = c.self.inside.width; groups = c.write_at-result.new.groups.items; tally = c.note_write.new.self } in
     subst (λ (s : Grouped g.row.R.Denot). GroupedMade g.R.Rack s (calls m ∷ []) new) c.self.view_is
-    (made_grouped g.R.Rack (calls m) m refl r old new c.write_at-result.ensures.steps (tally_of m r c.is_err.result c.self.inside.tally c.note_write.new.self c.is_err.ensures.value c.note_write.ensures.notes) refl
+    (made_grouped g.R.Rack (calls m) m refl r old new c.write_at-result.ensures.steps (tally_of m r c.is_err.result c.self.inside.tally c.note_write.new.self c.is_err.ensures.value c.note_write.ensures.notes) (inside_facts g.R.Rack (calls m) m r old new c.write_at-result.ensures.steps (subst (λ (s : Grouped g.row.R.Denot). serves s.groups m ≡ true) (sym c.self.view_is) c.requires.stands) c.write_at-result.ensures.alive (c.args.place + length c.args.buf.now) (subst (λ (s : Grouped g.row.R.Denot). IfSome (grouped_bytes g.R.Rack s m) (λ all. c.args.place + length c.args.buf.now ≤ length all)) (sym c.self.view_is) c.requires.range) c.write_at-result.ensures.fails) c.self.invariant.widths refl
     (λ s j no was. c.write_at-result.ensures.stays s j was))
 
 pub returns-clause-writes : goal.returns-clause-writes

@@ -7,7 +7,8 @@ use Rattle.dg_io.specs.Told.{IsZeros, Told}
 use Rattle.dg_model.specs.Causes.{RoseByOne}
 use Rattle.dg_parity.specs.ArrayCalls.{RackGoesOn}
 use Rattle.dg_parity.specs.ParityLaws.{grouped_leaves, grouped_made, plain_made, grouped_rest, plain_leaves, plain_rest}
-use Rattle.dg_parity.specs.ParityRacks.{ParityMade, parity_bytes, parity_counts, parity_keeps, parity_stands, parity_words, IsNoted, IsServed, IsShaped, IsUnserved}
+use Rattle.dg_io.specs.Disks.{AreSameGroups}
+use Rattle.dg_parity.specs.ParityRacks.{ParityMade, parity_bytes, parity_counts, parity_keeps, parity_stands, parity_words, IsNoted, IsServed, IsUnserved, parity_disks}
 use Rattle.dg_parity.specs.declared.parity_racks.ParityRack.{ParityRack}
 use Rattle.dg_parity.specs.declared.parity_racks.ParityRack.TheVariants.{Plain, OfGroups}
 use Rattle.dg_parity.proofs.ArraySteps.{ok_on, err_on}
@@ -51,13 +52,13 @@ returns-in-OfGroups-clause-writes g c = subst (λ (s : ParityRack g.row.R.Denot)
 
 pub returns-in-Plain-clause-shape : goal.returns-in-Plain-clause-shape
 returns-in-Plain-clause-shape g c =
-    let h : IsShaped (Plain c.in-Plain.rack) (Plain c.blank.new.self) = record { width = refl; groups = refl } in
-    subst (λ (s : ParityRack g.row.R.Denot). IsShaped s (Plain c.blank.new.self)) (sym c.in-Plain.is) h
+    let h : AreSameGroups (parity_disks g.R.Rack (Plain c.in-Plain.rack)) (parity_disks g.R.Rack (Plain c.blank.new.self)) = record { width = refl; count = refl } in
+    subst (λ (s : ParityRack g.row.R.Denot). AreSameGroups (parity_disks g.R.Rack s) (parity_disks g.R.Rack (Plain c.blank.new.self))) (sym c.in-Plain.is) h
 
 pub returns-in-OfGroups-clause-shape : goal.returns-in-OfGroups-clause-shape
 returns-in-OfGroups-clause-shape g c =
-    let h : IsShaped (OfGroups c.in-OfGroups.grouped) (OfGroups c.blank-in-OfGroups.new.self) = record { width = ap Some c.blank-in-OfGroups.ensures.shape.width; groups = c.blank-in-OfGroups.ensures.shape.groups } in
-    subst (λ (s : ParityRack g.row.R.Denot). IsShaped s (OfGroups c.blank-in-OfGroups.new.self)) (sym c.in-OfGroups.is) h
+    let h : AreSameGroups (parity_disks g.R.Rack (OfGroups c.in-OfGroups.grouped)) (parity_disks g.R.Rack (OfGroups c.blank-in-OfGroups.new.self)) = record { width = ap Some c.blank-in-OfGroups.ensures.shape.width; count = c.blank-in-OfGroups.ensures.shape.groups } in
+    subst (λ (s : ParityRack g.row.R.Denot). AreSameGroups (parity_disks g.R.Rack s) (parity_disks g.R.Rack (OfGroups c.blank-in-OfGroups.new.self))) (sym c.in-OfGroups.is) h
 
 pub returns-in-Plain-clause-alive : goal.returns-in-Plain-clause-alive
 returns-in-Plain-clause-alive g c = ok_on c.blank.result (IsServed (Plain c.blank.new.self) c.args.member) tt

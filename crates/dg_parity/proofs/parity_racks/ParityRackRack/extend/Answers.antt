@@ -6,7 +6,8 @@ use Rattle.dg_io.specs.Told.{Extended, FitsIn, KeepsFront, Told}
 use Rattle.dg_model.specs.Causes.{RoseByOne}
 use Rattle.dg_parity.specs.ArrayCalls.{RackGoesOn}
 use Rattle.dg_parity.specs.ParityLaws.{grouped_leaves, grouped_made, plain_made, plain_leaves}
-use Rattle.dg_parity.specs.ParityRacks.{ParityMade, parity_bytes, parity_counts, parity_stands, parity_words, IsNoted, IsServed, IsShaped, IsUnserved, IsShort}
+use Rattle.dg_io.specs.Disks.{AreSameGroups}
+use Rattle.dg_parity.specs.ParityRacks.{ParityMade, parity_bytes, parity_counts, parity_stands, parity_words, IsNoted, IsServed, IsUnserved, IsShort, parity_disks}
 use Rattle.dg_parity.specs.declared.parity_racks.ParityRack.{ParityRack}
 use Rattle.dg_parity.specs.declared.parity_racks.ParityRack.TheVariants.{Plain, OfGroups}
 use Rattle.dg_parity.proofs.ArraySteps.{ok_on, err_on}
@@ -56,13 +57,13 @@ returns-in-OfGroups-clause-writes g c = subst (λ (s : ParityRack g.row.R.Denot)
 
 pub returns-in-Plain-clause-shape : goal.returns-in-Plain-clause-shape
 returns-in-Plain-clause-shape g c =
-    let h : IsShaped (Plain c.in-Plain.rack) (Plain c.extend.new.self) = record { width = refl; groups = refl } in
-    subst (λ (s : ParityRack g.row.R.Denot). IsShaped s (Plain c.extend.new.self)) (sym c.in-Plain.is) h
+    let h : AreSameGroups (parity_disks g.R.Rack (Plain c.in-Plain.rack)) (parity_disks g.R.Rack (Plain c.extend.new.self)) = record { width = refl; count = refl } in
+    subst (λ (s : ParityRack g.row.R.Denot). AreSameGroups (parity_disks g.R.Rack s) (parity_disks g.R.Rack (Plain c.extend.new.self))) (sym c.in-Plain.is) h
 
 pub returns-in-OfGroups-clause-shape : goal.returns-in-OfGroups-clause-shape
 returns-in-OfGroups-clause-shape g c =
-    let h : IsShaped (OfGroups c.in-OfGroups.grouped) (OfGroups c.extend-in-OfGroups.new.self) = record { width = ap Some c.extend-in-OfGroups.ensures.shape.width; groups = c.extend-in-OfGroups.ensures.shape.groups } in
-    subst (λ (s : ParityRack g.row.R.Denot). IsShaped s (OfGroups c.extend-in-OfGroups.new.self)) (sym c.in-OfGroups.is) h
+    let h : AreSameGroups (parity_disks g.R.Rack (OfGroups c.in-OfGroups.grouped)) (parity_disks g.R.Rack (OfGroups c.extend-in-OfGroups.new.self)) = record { width = ap Some c.extend-in-OfGroups.ensures.shape.width; count = c.extend-in-OfGroups.ensures.shape.groups } in
+    subst (λ (s : ParityRack g.row.R.Denot). AreSameGroups (parity_disks g.R.Rack s) (parity_disks g.R.Rack (OfGroups c.extend-in-OfGroups.new.self))) (sym c.in-OfGroups.is) h
 
 pub returns-in-Plain-clause-alive : goal.returns-in-Plain-clause-alive
 returns-in-Plain-clause-alive g c = ok_on c.extend.result (IsServed (Plain c.extend.new.self) c.args.member) tt

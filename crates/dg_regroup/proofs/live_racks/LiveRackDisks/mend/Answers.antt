@@ -1,20 +1,20 @@
 use Rattle.std.proofs.Common.{◌≡◌, ◌<◌, ◌≤◌, ℕ, IfSome, length, slice_index, rules, refl, subst}
-use Rattle.dg_io.specs.DiskAnswers.{MendsDisk, OneDisk}
+use Rattle.dg_io.specs.DiskAnswers.{LeavesMembers, MendsDisk, OneDisk}
 use Rattle.dg_model.specs.Lives.{boundary_at}
-use Rattle.dg_regroup.proofs.LiveDisks.{group_below, mends_through, none_says, not_in_use, one_disk_through}
+use Rattle.dg_regroup.specs.LiveDisks.{group_below, members_through, mends_through, none_says, not_in_use, not_some, one_disk_through}
 use Rattle.dg_regroup.proofs.live_racks.LiveRackDisks.mend.Goals as goal
 
 pub mend-requires : goal.mend-requires
 mend-requires g c =
     let group : c.in-Some.group.now ≡ slice_index c.args.self.now.live.items c.args.s = search rules in
-    record { place = group_below (g.R.Disks.width c.args.self.now.rack) c.args.self.now g.R.Disks.groups c.args.s c.args.j c.in-Some.group.now group c.requires.place }
+    record { place = group_below (g.R.Rack.disks c.args.self.now.rack).width (g.R.Rack.disks c.args.self.now.rack).groups c.args.self.now.live.items c.args.s c.args.j c.in-Some.group.now c.args.self.now.ascend group c.requires.place }
 
 pub returns-in-Some-clause-answer : goal.returns-in-Some-clause-answer
 returns-in-Some-clause-answer g c =
     let within : c.args.s < length c.args.self.now.live.items = search rules in
     let group : c.in-Some.group.now ≡ boundary_at c.args.self.now.live.items c.args.s = search rules in
-    mends_through c.args.self.now.live.items (g.R.Disks.width c.args.self.now.rack) c.args.s c.args.j c.mend.result (g.R.Rack.disks c.args.self.now.rack) (g.R.Rack.disks c.mend.new.self) within
-    (subst (λ (t : ℕ). IfSome (g.R.Disks.width c.args.self.now.rack) (λ n. MendsDisk n t c.args.j (g.R.Rack.disks c.args.self.now.rack) (g.R.Rack.disks c.mend.new.self) c.mend.result)) group c.mend.ensures.answer)
+    mends_through c.args.self.now.live.items (g.R.Rack.disks c.args.self.now.rack).width c.args.s c.args.j c.mend.result (g.R.Rack.disks c.args.self.now.rack) (g.R.Rack.disks c.mend.new.self) within
+    (subst (λ (t : ℕ). IfSome (g.R.Rack.disks c.args.self.now.rack).width (λ n. MendsDisk n t c.args.j (g.R.Rack.disks c.args.self.now.rack) (g.R.Rack.disks c.mend.new.self) c.mend.result)) group c.mend.ensures.answer)
 
 pub returns-in-Some-clause-disks : goal.returns-in-Some-clause-disks
 returns-in-Some-clause-disks g c =
@@ -26,9 +26,30 @@ returns-in-Some-clause-disks g c =
 pub returns-in-None-clause-plain : goal.returns-in-None-clause-plain
 returns-in-None-clause-plain g c =
     let high : length c.args.self.now.live.items ≤ c.args.s = search rules in
-    (λ is. not_in_use (g.R.Disks.width c.args.self.now.rack) c.args.self.now g.R.Disks.groups c.args.s c.args.j c.requires.place high, λ is. refl)
+    (λ is. not_in_use (g.R.Rack.disks c.args.self.now.rack).width (g.R.Rack.disks c.args.self.now.rack).groups c.args.self.now.live.items c.args.s c.args.j c.requires.place high, λ is. refl)
 
 pub returns-in-None-clause-answer : goal.returns-in-None-clause-answer
 returns-in-None-clause-answer g c =
     let high : length c.args.self.now.live.items ≤ c.args.s = search rules in
-    none_says _ _ (not_in_use (g.R.Disks.width c.args.self.now.rack) c.args.self.now g.R.Disks.groups c.args.s c.args.j c.requires.place high)
+    none_says _ _ (not_in_use (g.R.Rack.disks c.args.self.now.rack).width (g.R.Rack.disks c.args.self.now.rack).groups c.args.self.now.live.items c.args.s c.args.j c.requires.place high)
+
+pub returns-in-Some-clause-leaves : goal.returns-in-Some-clause-leaves
+returns-in-Some-clause-leaves g c =
+    let within : c.args.s < length c.args.self.now.live.items = search rules in
+    let group : c.in-Some.group.now ≡ boundary_at c.args.self.now.live.items c.args.s = search rules in
+    members_through g.R.Rack c.args.s c.args.self.now _ (record { live = refl; absent = refl; calls = refl; writes = refl }) within
+    (subst (λ (t : ℕ). LeavesMembers g.R.Rack t c.args.self.now.rack c.mend.new.self) group c.mend.ensures.leaves)
+
+pub returns-in-Some-clause-handles : goal.returns-in-Some-clause-handles
+returns-in-Some-clause-handles g c = λ some.
+    let group : c.in-Some.group.now ≡ boundary_at c.args.self.now.live.items c.args.s = search rules in
+    record {
+      in_use = search rules;
+      below = subst (λ (t : ℕ). g.R.Rack.handles c.args.self.now.rack t c.args.j c.mend.new.self) group (c.mend.ensures.handles some);
+      through = record { live = refl; absent = refl; calls = refl; writes = refl };
+    }
+
+pub returns-in-None-clause-handles : goal.returns-in-None-clause-handles
+returns-in-None-clause-handles g c = λ some.
+    let high : length c.args.self.now.live.items ≤ c.args.s = search rules in
+    absurd (not_some _ (not_in_use (g.R.Rack.disks c.args.self.now.rack).width (g.R.Rack.disks c.args.self.now.rack).groups c.args.self.now.live.items c.args.s c.args.j c.requires.place high) some)
