@@ -34,10 +34,10 @@ pub returns-in-Already-clause-handles : goal.returns-in-Already-clause-handles
 returns-in-Already-clause-handles g c =
     let s = c.in-Some-place in
     rack_left g.S.InPhase g.R.Rack c.args.self.now c.drop_disk.new.self c.args.boundary s.place c.args.disk c.requires.well
-    (omega arith) s.ensures.some s.ensures.within g.R.Disks.handles (c.in-Already.ensures.handles (some_is _ (g.R.Rack.disks (rack_of c.args.self.now)).width c.in-Some.ensures))
+    (omega arith) s.ensures.some s.ensures.within g.R.Rack.handles (c.in-Already.ensures.handles (some_is _ (g.R.Rack.disks (rack_of c.args.self.now)).width c.in-Some.ensures))
 
 pub returns-in-Dropped-clause-handles : goal.returns-in-Dropped-clause-handles
 returns-in-Dropped-clause-handles g c =
     let s = c.in-Some-place in
     rack_left g.S.InPhase g.R.Rack c.args.self.now c.drop_disk.new.self c.args.boundary s.place c.args.disk c.requires.well
-    (omega arith) s.ensures.some s.ensures.within g.R.Disks.handles (c.in-Dropped.ensures.handles (some_is _ (g.R.Rack.disks (rack_of c.args.self.now)).width c.in-Some.ensures))
+    (omega arith) s.ensures.some s.ensures.within g.R.Rack.handles (c.in-Dropped.ensures.handles (some_is _ (g.R.Rack.disks (rack_of c.args.self.now)).width c.in-Some.ensures))

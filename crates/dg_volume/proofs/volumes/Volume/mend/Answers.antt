@@ -61,22 +61,22 @@ pub returns-in-Lost-clause-handles : goal.returns-in-Lost-clause-handles
 returns-in-Lost-clause-handles g c =
     let s = c.in-Some-place in
     rack_left g.S.InPhase g.R.Rack c.args.self.now c.mend.new.self c.args.boundary s.place c.args.disk c.requires.well
-    (omega arith) s.ensures.some s.ensures.within g.R.Disks.handles (c.in-Lost.ensures.handles (some_is _ (g.R.Rack.disks (rack_of c.args.self.now)).width c.in-Some.ensures))
+    (omega arith) s.ensures.some s.ensures.within g.R.Rack.handles (c.in-Lost.ensures.handles (some_is _ (g.R.Rack.disks (rack_of c.args.self.now)).width c.in-Some.ensures))
 
 pub returns-in-NotOut-clause-handles : goal.returns-in-NotOut-clause-handles
 returns-in-NotOut-clause-handles g c =
     let s = c.in-Some-place in
     rack_left g.S.InPhase g.R.Rack c.args.self.now c.mend.new.self c.args.boundary s.place c.args.disk c.requires.well
-    (omega arith) s.ensures.some s.ensures.within g.R.Disks.handles (c.in-NotOut.ensures.handles (some_is _ (g.R.Rack.disks (rack_of c.args.self.now)).width c.in-Some.ensures))
+    (omega arith) s.ensures.some s.ensures.within g.R.Rack.handles (c.in-NotOut.ensures.handles (some_is _ (g.R.Rack.disks (rack_of c.args.self.now)).width c.in-Some.ensures))
 
 pub returns-in-Failed-clause-handles : goal.returns-in-Failed-clause-handles
 returns-in-Failed-clause-handles g c =
     let s = c.in-Some-place in
     rack_left g.S.InPhase g.R.Rack c.args.self.now c.mend.new.self c.args.boundary s.place c.args.disk c.requires.well
-    (omega arith) s.ensures.some s.ensures.within g.R.Disks.handles (c.in-Failed.ensures.handles (some_is _ (g.R.Rack.disks (rack_of c.args.self.now)).width c.in-Some.ensures))
+    (omega arith) s.ensures.some s.ensures.within g.R.Rack.handles (c.in-Failed.ensures.handles (some_is _ (g.R.Rack.disks (rack_of c.args.self.now)).width c.in-Some.ensures))
 
 pub returns-in-Mended-clause-handles : goal.returns-in-Mended-clause-handles
 returns-in-Mended-clause-handles g c =
     let s = c.in-Some-place in
     rack_left g.S.InPhase g.R.Rack c.args.self.now c.mend.new.self c.args.boundary s.place c.args.disk c.requires.well
-    (omega arith) s.ensures.some s.ensures.within g.R.Disks.handles (c.in-Mended.ensures.handles (some_is _ (g.R.Rack.disks (rack_of c.args.self.now)).width c.in-Some.ensures))
+    (omega arith) s.ensures.some s.ensures.within g.R.Rack.handles (c.in-Mended.ensures.handles (some_is _ (g.R.Rack.disks (rack_of c.args.self.now)).width c.in-Some.ensures))
