@@ -19,11 +19,11 @@ use Rattle.dg_run.proofs.BaseTies.{base_after, base_both, base_no_disks, base_no
 use Rattle.dg_run.proofs.Checkpoints.{nothing_at}
 use Rattle.dg_run.proofs.Continuing.{begins_on}
 use Rattle.dg_run.proofs.Happening.{counts_in}
-use Rattle.dg_run.proofs.Segments.{Begins, Segment, of_replacements, segment, there_by}
+use Rattle.dg_run.proofs.Segments.{Begins, Segment, of_blanks, segment, there_by}
 use Rattle.dg_run.specs.Bases.{Base, HasNoDisks, base, base_counts}
 use Rattle.dg_run.specs.Histories.{IsBlankReady, IsReady, Running, below_of, boundaries_of, live_of, running}
 use Rattle.dg_run.specs.Steps.{IsBlankArray, rack_of}
-use Rattle.dg_store.specs.Leaves.{IsCallOrBlankBelow}
+use Rattle.dg_store.specs.Leaves.{IsBlankBelow}
 
 module _ {R : Type 0} (rack : Ghosts R) (none : (s : R) → rack.made s [] s) (both : (a b c : R) (x y : List RackCall) → rack.made a x b → rack.made b y c → rack.made a (x ++ y) c)
     (law : (a b : R) (made : List RackCall) → rack.made a made b → After rack made a b) (lacks : HasNoDisks rack) where
@@ -46,9 +46,9 @@ module _ {R : Type 0} (rack : Ghosts R) (none : (s : R) → rack.made s [] s) (b
         let less : i < shape.b = omega (arith, low, length-range_with_len 0 shape.b) in
         omega (arith, get_or-range_with_len 0 shape.b i 0 less, less))
 
-    part : Segment (base rack) IsCallOrBlankBelow shape.b start (rack_of array)
-    part = segment (base rack) (base_none rack none) (base_both rack both) (base_after rack law) IsCallOrBlankBelow of_replacements (all_live shape.b) shape.b start (rack_of array) begins within
-        (subst (λ (n : ℕ). Makes (running rack) (IsCallOrBlankBelow n) start (rack_of array)) (sym (length-range_with_len 0 shape.b)) blank.own.made) blank.tells
+    part : Segment (base rack) IsBlankBelow shape.b start (rack_of array)
+    part = segment (base rack) (base_none rack none) (base_both rack both) (base_after rack law) IsBlankBelow of_blanks (all_live shape.b) shape.b start (rack_of array) begins within
+        (subst (λ (n : ℕ). Makes (running rack) (IsBlankBelow n) start (rack_of array)) (sym (length-range_with_len 0 shape.b)) blank.own.made) blank.tells
 
     live_same : live_of array ≡ all_live shape.b
     live_same = sym (ap (λ (s : State). s.live) blank.stands.volume.is) ∙ ap (λ (s : State). s.live) blank.blank.is

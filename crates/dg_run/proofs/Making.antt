@@ -42,8 +42,8 @@ use Rattle.dg_stop.specs.StopRacks.{StandKnown, stop_keeps, stop_room, stop_stan
 use Rattle.dg_stop.specs.Ties.{new_stand_known}
 use Rattle.dg_stop.specs.declared.stop_racks.StopRack.{StopRack}
 use Rattle.dg_stop.specs.declared.stop_racks.StopRack.TheVariants.{Plain, Doubled}
-use Rattle.dg_store.specs.Leaves.{IsAnyCallBelow, IsCallOrBlankBelow}
-use Rattle.dg_store.specs.ReadLaws.{any_of_blank}
+use Rattle.dg_store.specs.Leaves.{IsAnyCallBelow, IsBlankBelow}
+use Rattle.dg_store.specs.ReadLaws.{any_of_blank, blank_or_call}
 use Rattle.dg_text.specs.Lines.{AreInPlace, IsInPlace, input_of, line_of}
 use Rattle.dg_volume.specs.Origins.{Always}
 use Rattle.dg_volume.specs.Origins.Origin.{nothing}
@@ -134,7 +134,7 @@ module _ {R : Type 0} (rack : Ghosts R) (none : (s : R) → rack.made s [] s) (b
 
     later_first : Later rack shape.b before (below_of a)
     later_first = later_made rack none both law shape.b before (below_of a)
-        (makes_such (base rack) (IsCallOrBlankBelow shape.b) (IsAnyCallBelow shape.b) (any_of_blank shape.b) before (below_of a) made.blank.made)
+        (makes_such (base rack) (IsBlankBelow shape.b) (IsAnyCallBelow shape.b) (λ call is. any_of_blank shape.b call (blank_or_call shape.b call is)) before (below_of a) made.blank.made)
 
     later_all : Later rack shape.b before (below_of b)
     later_all = later_both rack none both law shape.b before (below_of a) (below_of b) later_first
@@ -222,7 +222,7 @@ module _ {R : Type 0} (rack : Ghosts R) (none : (s : R) → rack.made s [] s) (b
     -- each member that was made blank is known, or that failed
     stands_known : StandKnown (rack_behind (below_of a))
     stands_known =
-        let whole = makes_made (base rack) (IsCallOrBlankBelow shape.b) (base_none rack none) (base_both rack both) before (below_of a) made.blank.made in
+        let whole = makes_made (base rack) (IsBlankBelow shape.b) (base_none rack none) (base_both rack both) before (below_of a) made.blank.made in
         base_stand_known rack before (below_of a) whole.calls whole.made (subst (λ (s : StopRack R). StandKnown s) (sym made.whole.rack_is) (idle_known stop shape made.unused))
 
     live_first : live_of a ≡ all_live shape.b

@@ -23,8 +23,8 @@ use Rattle.dg_regroup.specs.LivePassing.{own_calls, own_writes, passes_on}
 use Rattle.dg_regroup.specs.LiveRacks.{is_there, live_in, rack_in}
 use Rattle.dg_regroup.specs.declared.live_racks.LiveRack.{LiveRack}
 use Rattle.dg_run.proofs.TakenOut.{lost_failed}
-use Rattle.dg_store.specs.Leaves.{IsAnyCallBelow, IsCallBelow, IsCallOrBlankBelow, IsCallOrExtendBelow}
-use Rattle.dg_store.specs.ReadLaws.{any_of_blank, any_of_call, any_of_extend}
+use Rattle.dg_store.specs.Leaves.{IsAnyCallBelow, IsBlankBelow, IsCallBelow, IsCallOrBlankBelow, IsCallOrExtendBelow}
+use Rattle.dg_store.specs.ReadLaws.{any_of_blank, any_of_call, any_of_extend, blank_or_call}
 
 -- a number stands in a list, or nowhere
 pub find_number : (numbers : List ℕ) (s : ℕ) → ((x : ℕ) × (x < length numbers) × (slice_index numbers x ≡ s)) ⊎ ((x : ℕ) → x < length numbers → slice_index numbers x ≢ s)
@@ -95,6 +95,15 @@ of_replacements = record { any = any_of_blank; below = below } where
   below numbers own bound low places (looks q) is = absurd is
   below numbers own bound low places (blanks q) is = number_below numbers own bound low places q is
   below numbers own bound low places (calls q) is = number_below numbers own bound low places q is
+  below numbers own bound low places (extends q) is = absurd is
+
+pub of_blanks : IsOfKind IsBlankBelow
+of_blanks = record { any = λ b call is. any_of_blank b call (blank_or_call b call is); below = below } where
+  below : (numbers own : List ℕ) (bound : ℕ) → All (λ s. s < bound) numbers → ((i : ℕ) → i < length numbers → slice_index own i ≡ slice_index numbers i)
+      → (call : RackCall) → IsBlankBelow (length numbers) call → IsBlankBelow bound (call_below own call)
+  below numbers own bound low places (looks q) is = absurd is
+  below numbers own bound low places (blanks q) is = number_below numbers own bound low places q is
+  below numbers own bound low places (calls q) is = absurd is
   below numbers own bound low places (extends q) is = absurd is
 
 -- a member of no such boundary isn't called

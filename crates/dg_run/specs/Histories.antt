@@ -20,7 +20,7 @@ use Rattle.dg_run.specs.Courses.{Course, Standing}
 use Rattle.dg_run.specs.Steps.{BeginsLines, IsSound, NotesFile, StandsIn, rack_of, shape_of}
 use Rattle.dg_run.specs.declared.arrays.Array.{Array}
 use Rattle.dg_stop.specs.Doubles.{LeavesAlone}
-use Rattle.dg_store.specs.Leaves.{IsCallOrBlankBelow}
+use Rattle.dg_store.specs.Leaves.{IsBlankBelow}
 use Rattle.dg_text.specs.Replies.{reply_line}
 use Rattle.dg_volume.specs.Origins.{Origin, WasHeld}
 use Rattle.dg_volume.specs.Origins.Origin.{nothing}
@@ -184,7 +184,7 @@ pub record IsBlankReady {R : Type 0} (rack : Ghosts R) (shape : Shape) (before :
   pub whole : IsWholeOn array
   pub shape_is : shape_of array ≡ shape
   pub boundaries : boundaries_of array ≡ shape.b
-  pub made : Makes (base rack) (IsCallOrBlankBelow shape.b) before (below_of array)
+  pub made : Makes (base rack) (IsBlankBelow shape.b) before (below_of array)
   pub tells : StillTold (base_bytes rack before) (base_bytes rack (below_of array))
   pub state : State
   pub first : Counts

@@ -12,7 +12,7 @@ use Rattle.dg_model.specs.declared.replies.Reply.TheVariants.{LostFiles as LostF
 use Rattle.dg_model.specs.declared.shapes.Shape.{Shape}
 use Rattle.dg_pair.specs.Kept.{KeepsNothing}
 use Rattle.dg_run.specs.declared.arrays.Array.{Array}
-use Rattle.dg_store.specs.Leaves.{IsCallOrBlankBelow, IsCallOrExtendBelow, MadeBelow}
+use Rattle.dg_store.specs.Leaves.{IsBlankBelow, IsCallOrBlankBelow, IsCallOrExtendBelow, MadeBelow}
 use Rattle.dg_text.specs.Replies.{lost_text, nodes_text, reply_line}
 use Rattle.dg_volume.specs.Commits.{KeepsBy, KeepsSaved, checkpoint_reply}
 use Rattle.dg_volume.specs.Origins.{Always, Origin, WasHeld}
@@ -173,7 +173,7 @@ pub record IsBlankArray {R : Type 0} (rack : Ghosts R) (shape : Shape) (before :
   pub sound : IsSound rack array
   pub shape_is : shape_of array ≡ shape
   pub tells : StillTold (rack.bytes before) (rack.bytes (rack_of array))
-  pub own : MadeBelow rack IsCallOrBlankBelow shape.b before (rack_of array)
+  pub own : MadeBelow rack IsBlankBelow shape.b before (rack_of array)
   pub same_rack : rack.name (rack_of array) ≡ rack.name before
   pub state : State
   pub blank : IsBlank shape (rack.counts before) state

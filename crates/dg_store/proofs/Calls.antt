@@ -18,7 +18,7 @@ use Rattle.dg_io.specs.declared.outside.Rack.{Ghosts}
 use Rattle.dg_pair.specs.declared.boundaries.Boundary.{Boundary}
 use Rattle.dg_pair.specs.Boundaries.{MembersFit, MembersStand, members_of, number_of, size_of, slots_of}
 use Rattle.dg_pair.specs.Calls.{IsBlankAt, IsCallAt, IsCallOf, IsExtendAt, IsExtendOf, KeepsBeside, KeepsPair, LeavesBoundary, LeavesPair}
-use Rattle.dg_store.specs.Leaves.{CallsBelow, IsCallBelow, IsCallOrBlankBelow, IsCallOrExtendBelow, MadeBelow, OutAreIdle, RackStays}
+use Rattle.dg_store.specs.Leaves.{CallsBelow, IsBlankBelow, IsCallBelow, IsCallOrExtendBelow, MadeBelow, OutAreIdle, RackStays}
 use Rattle.dg_store.specs.Rows.{AreLong, IsRow, RowStands, members_in}
 use Rattle.dg_store.specs.Slots.{KeepsOtherSlots, KeepsSlots, RowKeeps}
 use Rattle.dg_store.proofs.Changed.{OtherPairsSame, falls_changed, fell_changed, lost_is, holds_part, holds_whole, kept_changed}
@@ -209,7 +209,7 @@ extend_below low (blanks q) is = is
 extend_below low (calls q) is = absurd is
 extend_below low (extends q) is = omega (arith, low, is)
 
-blank_below : {s b : ℕ} → s < b → (call : RackCall) → IsBlankAt s call → IsCallOrBlankBelow b call
+blank_below : {s b : ℕ} → s < b → (call : RackCall) → IsBlankAt s call → IsBlankBelow b call
 blank_below low (looks q) is = is
 blank_below low (blanks q) is = omega (arith, low, is)
 blank_below low (calls q) is = absurd is
@@ -236,11 +236,11 @@ own_extended rack {number = number} {s = s} {b = b} {old = old} {new = new} at l
     }
 
 pub own_blanked : {R : Type 0} (rack : Ghosts R) {number s b l slots : ℕ} {expected : ℕ → MemberState} {y : Boundary} {old new : R} → number ≡ s → s < b
-    → LeavesBoundary rack (IsBlankAt number) number l slots expected y old new → MadeBelow rack IsCallOrBlankBelow b old new
+    → LeavesBoundary rack (IsBlankAt number) number l slots expected y old new → MadeBelow rack IsBlankBelow b old new
 own_blanked rack {number = number} {s = s} {b = b} {old = old} {new = new} at low leaves =
     let inside : number < b = omega (arith, at, low) in
     record {
-      made = makes_only rack (IsCallOrBlankBelow b) old new (only_such rack (IsBlankAt number) (IsCallOrBlankBelow b) old new (blank_below inside) leaves.made);
+      made = makes_only rack (IsBlankBelow b) old new (only_such rack (IsBlankAt number) (IsBlankBelow b) old new (blank_below inside) leaves.made);
       other_bytes = λ q past. leaves.other_bytes q (λ here. omega (arith, past, inside, here));
       other_faults = λ q past. leaves.other_faults q (λ here. omega (arith, past, inside, here));
     }

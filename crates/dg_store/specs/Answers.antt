@@ -17,7 +17,7 @@ use Rattle.dg_model.specs.declared.shapes.Shape.{Shape}
 use Rattle.dg_model.specs.declared.sites.Site.{Site}
 use Rattle.dg_pair.specs.Kept.{KeepsNothing}
 use Rattle.dg_store.specs.declared.store.Store.{Store}
-use Rattle.dg_store.specs.Leaves.{CallsAtMost, FailedAreOut, IsCallOrBlankBelow, MadeBelow, RackStays}
+use Rattle.dg_store.specs.Leaves.{CallsAtMost, FailedAreOut, IsBlankBelow, MadeBelow, RackStays}
 use Rattle.dg_store.specs.Stores.{IsSound, KeepsBlocks, SetsBlock, StandsFor, members_of, rack_of, table_of}
 
 -- ---- a blank array
@@ -48,7 +48,7 @@ pub record IsBlankStore {R : Type 0} (rack : Ghosts R) (shape : Shape) (before :
   pub stays : RackStays rack before (rack_of store)
   -- the members were made anew, in the order of their numbers; no other one was called, and one whose call failed is out
   pub made : rack.made before (blanks_of shape.b) (rack_of store)
-  pub own : MadeBelow rack IsCallOrBlankBelow shape.b before (rack_of store)
+  pub own : MadeBelow rack IsBlankBelow shape.b before (rack_of store)
   pub nothing : KeepsNothing rack.keeps before (rack_of store)
   pub fell : FailedAreOut (rack.counts before).faults (rack.counts (rack_of store)).faults (members_of store)
   pub blanked : AreZeroed (member_length 2 shape) (members_of store) (rack.bytes (rack_of store))

@@ -36,7 +36,14 @@ IsCallOrExtendBelow b (blanks q) = ⊥
 IsCallOrExtendBelow b (calls q) = q / 2 < b
 IsCallOrExtendBelow b (extends q) = q / 2 < b
 
--- a call that reads or writes such a member, or makes it anew, as a replacement and the blank array make them
+-- a call that makes such a member anew, as the blank array makes them
+abbrev pub IsBlankBelow : ℕ → RackCall → Type 0
+IsBlankBelow b (looks q) = ⊥
+IsBlankBelow b (blanks q) = q / 2 < b
+IsBlankBelow b (calls q) = ⊥
+IsBlankBelow b (extends q) = ⊥
+
+-- a call that reads or writes such a member, or makes it anew, as a replacement makes them
 abbrev pub IsCallOrBlankBelow : ℕ → RackCall → Type 0
 IsCallOrBlankBelow b (looks q) = ⊥
 IsCallOrBlankBelow b (blanks q) = q / 2 < b

@@ -20,7 +20,7 @@ use Rattle.dg_model.specs.declared.shapes.Shape.{Shape}
 use Rattle.dg_model.specs.declared.sites.Site.{Site}
 use Rattle.dg_pair.specs.Calls.{IsCallOf, KeepsBeside}
 use Rattle.dg_store.specs.declared.store.Store.{Store}
-use Rattle.dg_store.specs.Leaves.{CallsBelow, FailedAreOut, IsAnyCallBelow, IsCallBelow, IsCallOrBlankBelow, IsCallOrExtendBelow, Keeps, MadeBelow, OutAreIdle, RackStays, Stays, StaysBy}
+use Rattle.dg_store.specs.Leaves.{CallsBelow, FailedAreOut, IsAnyCallBelow, IsBlankBelow, IsCallBelow, IsCallOrBlankBelow, IsCallOrExtendBelow, Keeps, MadeBelow, OutAreIdle, RackStays, Stays, StaysBy}
 use Rattle.dg_store.specs.Stores.{IsSound, Tells, TellsAll, members_of, rack_of, shape_of, table_of}
 use Rattle.dg_store.specs.Views.{Fetches, ReadsOn, is_given, is_written}
 
@@ -99,7 +99,7 @@ rises_both a b c first second = record {
   writes = omega (arith, first.writes, second.writes);
 }
 
-blank_wider : (l n : ℕ) → l ≤ n → (call : RackCall) → IsCallOrBlankBelow l call → IsCallOrBlankBelow n call
+blank_wider : (l n : ℕ) → l ≤ n → (call : RackCall) → IsBlankBelow l call → IsBlankBelow n call
 blank_wider l n wide (looks q) is = is
 blank_wider l n wide (blanks q) is = omega (arith, wide, is)
 blank_wider l n wide (calls q) is = omega (arith, wide, is)
@@ -117,6 +117,13 @@ or_blank b (looks q) is = is
 or_blank b (blanks q) is = absurd is
 or_blank b (calls q) is = is
 or_blank b (extends q) is = is
+
+-- calls that make members anew are calls of which some may read or write
+pub blank_or_call : (b : ℕ) (call : RackCall) → IsBlankBelow b call → IsCallOrBlankBelow b call
+blank_or_call b (looks q) is = is
+blank_or_call b (blanks q) is = is
+blank_or_call b (calls q) is = absurd is
+blank_or_call b (extends q) is = is
 
 -- and each of these kinds is one of any calls but looks
 pub any_of_call : (b : ℕ) (call : RackCall) → IsCallBelow b call → IsAnyCallBelow b call
@@ -194,9 +201,9 @@ module _ {R : Type 0} (rack : Ghosts R) where
     other_faults = λ q past. second.other_faults q past ∙ first.other_faults q past;
   }
 
-  pub own_wider : (l n : ℕ) (a b : R) → l ≤ n → MadeBelow rack IsCallOrBlankBelow l a b → MadeBelow rack IsCallOrBlankBelow n a b
+  pub own_wider : (l n : ℕ) (a b : R) → l ≤ n → MadeBelow rack IsBlankBelow l a b → MadeBelow rack IsBlankBelow n a b
   own_wider l n a b wide own = record {
-    made = makes_such rack (IsCallOrBlankBelow l) (IsCallOrBlankBelow n) (blank_wider l n wide) a b own.made;
+    made = makes_such rack (IsBlankBelow l) (IsBlankBelow n) (blank_wider l n wide) a b own.made;
     other_bytes = λ q past. own.other_bytes q (omega (arith, wide, past));
     other_faults = λ q past. own.other_faults q (omega (arith, wide, past));
   }

@@ -7,7 +7,7 @@ ghost use Rattle.dg_model.specs.Shapes.{IsShape};
 ghost use Rattle.dg_model.specs.States.{IsLeastLost, has_lost};
 ghost use Rattle.dg_pair.specs.Kept.{KeepsNothing};
 ghost use Rattle.dg_store.specs.Answers.{AreBlank, AreZeroed, blanks_of};
-ghost use Rattle.dg_store.specs.Leaves.{FailedAreOut, IsCallOrBlankBelow, MadeBelow, RackStays};
+ghost use Rattle.dg_store.specs.Leaves.{FailedAreOut, IsBlankBelow, MadeBelow, RackStays};
 ghost use Rattle.dg_store.specs.Stores.{lost_bits};
 ghost use Rattle.dg_store.specs.Rows.{IsRow, RowStands, members_in};
 ghost use Rattle.dg_store.specs.Slots.{KeepsOtherSlots, KeepsSlots, RowKeeps, TellsAt};
@@ -30,7 +30,7 @@ pub fn blank_row<R: Rack>(
     ensures zeros { IfOk result (λ row. AreZeroed (member_length 2 shape.now) (members_in row.items) (R.bytes rack.new)) }
     ensures rack { RackStays R.Rack rack.old rack.new }
     ensures made { IfOk result (λ row. R.made rack.old (blanks_of shape.now.b) rack.new) }
-    ensures own { MadeBelow R.Rack IsCallOrBlankBelow shape.now.b rack.old rack.new }
+    ensures own { MadeBelow R.Rack IsBlankBelow shape.now.b rack.old rack.new }
     ensures nothing { IfOk result (λ row. KeepsNothing R.keeps rack.old rack.new) }
     ensures fell { IfOk result (λ row. FailedAreOut (R.counts rack.old).faults (R.counts rack.new).faults (members_in row.items)) }
     ensures most { (R.counts rack.new).calls ≤ (R.counts rack.old).calls + 2 * shape.now.b }

@@ -24,7 +24,7 @@ use Rattle.dg_model.specs.declared.replies.Reply.{Reply}
 use Rattle.dg_model.specs.declared.shapes.Shape.{Shape}
 use Rattle.dg_model.specs.declared.wants.Want.{Want}
 use Rattle.dg_pair.specs.Kept.{KeepsNothing}
-use Rattle.dg_store.specs.Leaves.{IsCallBelow, IsCallOrBlankBelow, MadeBelow}
+use Rattle.dg_store.specs.Leaves.{IsBlankBelow, IsCallBelow, MadeBelow}
 use Rattle.dg_store.specs.Stores.{IsSound, TellsAll}
 use Rattle.dg_store.specs.Stores as stores
 use Rattle.dg_volume.specs.Origins.{Always, Origin, WasHeld}
@@ -242,7 +242,7 @@ pub record IsBlankVolume {R : Type 0} (rack : Ghosts R) (shape : Shape) (before 
   pub shape_is : shape_of volume ≡ shape
   pub tells : StillTold (rack.bytes before) (rack.bytes (rack_of volume))
   pub told_before : (q : ℕ) → rack.tells (rack_of volume) q → rack.tells before q
-  pub own : MadeBelow rack IsCallOrBlankBelow shape.b before (rack_of volume)
+  pub own : MadeBelow rack IsBlankBelow shape.b before (rack_of volume)
   -- where the rack kept nothing, it does
   pub nothing : KeepsNothing rack.keeps before (rack_of volume)
   pub same_rack : rack.name (rack_of volume) ≡ rack.name before

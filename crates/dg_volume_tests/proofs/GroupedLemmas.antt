@@ -8,7 +8,7 @@ use Rattle.dg_parity.specs.ParityLaws.{shape_stays}
 use Rattle.dg_parity.specs.ParityRacks.{IsNew, parity_disks, parity_words}
 use Rattle.dg_parity.specs.declared.parity_racks.ParityRack.{ParityRack}
 use Rattle.dg_parity.specs.declared.parity_racks.ParityRack.TheVariants.{OfGroups, Plain}
-use Rattle.dg_store.specs.Leaves.{IsCallBelow, IsCallOrBlankBelow}
+use Rattle.dg_store.specs.Leaves.{IsBlankBelow, IsCallBelow}
 use Rattle.dg_volume.specs.Disks.{LeavesDisks}
 use Rattle.dg_volume.specs.Regroups.{GoesOn}
 use Rattle.dg_volume.specs.Volumes.{IsBlankVolume, Leaves, loose_phase, rack_of, shape_of}
@@ -27,7 +27,7 @@ new_groups rack below groups n (OfGroups it) new = new.count
 pub blank_grouped : {R : Type 0} (rack : Ghosts R) (shape : Shape) (below : R) (groups n : ℕ) (before : ParityRack R) (volume : Volume Loose (ParityRack R))
     → IsNew rack below groups n before → shape.b ≤ groups → IsBlankVolume (parity_words rack) shape before volume → IsOfGroups loose_phase rack volume
 blank_grouped rack shape below groups n before volume new few blank =
-    let stays = shape_stays rack (parity_words rack) (λ a b calls made. made) (IsCallOrBlankBelow shape.b) before (rack_of volume) blank.own.made in
+    let stays = shape_stays rack (parity_words rack) (λ a b calls made. made) (IsBlankBelow shape.b) before (rack_of volume) blank.own.made in
     record {
       well = blank.well;
       groups = omega (arith, few, new_groups rack below groups n before new, stays.count, ap (λ (s : Shape). s.b) blank.shape_is);

@@ -3,7 +3,7 @@ use Rattle.dg_model.specs.Saves.{member_length}
 use Rattle.dg_pair.specs.Boundaries.{MembersStand}
 use Rattle.dg_pair.specs.Kept.{KeepsNothing}
 use Rattle.dg_store.specs.Answers.{AreBlank, AreZeroed, blanks_of}
-use Rattle.dg_store.specs.Leaves.{FailedAreOut, IsCallOrBlankBelow, MadeBelow, RackStays}
+use Rattle.dg_store.specs.Leaves.{FailedAreOut, IsBlankBelow, MadeBelow, RackStays}
 use Rattle.dg_store.specs.Rows.{RowStands, members_in}
 use Rattle.dg_store.proofs.boundaries.blank_row.Given as goal
 
@@ -17,7 +17,7 @@ invariant-loop-number g l = record {
   stays : RackStays g.R.Rack l.fn.rack l.rack;
   made : g.R.Rack.made l.fn.rack (blanks_of l.number) l.rack;
   nothing : KeepsNothing g.R.Rack.keeps l.fn.rack l.rack;
-  own : MadeBelow g.R.Rack IsCallOrBlankBelow l.number l.fn.rack l.rack;
+  own : MadeBelow g.R.Rack IsBlankBelow l.number l.fn.rack l.rack;
   fell : FailedAreOut (g.R.Rack.counts l.fn.rack).faults (g.R.Rack.counts l.rack).faults (members_in l.row.items);
   most : (g.R.Rack.counts l.rack).calls ≤ (g.R.Rack.counts l.fn.rack).calls + 2 * l.number;
 }

@@ -4,10 +4,8 @@ use Rattle.dg_model.specs.Blocks.{zeros}
 use Rattle.dg_model.specs.States.{State}
 use Rattle.dg_pair.specs.Kept.{KeepsNothing}
 use Rattle.dg_run.proofs.arrays.Array.new.Goals as goal
-use Rattle.dg_store.specs.ReadLaws.{own_or_blank}
-use Rattle.dg_volume.specs.HeldLaws.{own_then}
+use Rattle.dg_store.specs.Leaves.{IsBlankBelow, MadeBelow}
 use Rattle.dg_volume.specs.Origins.Origin.{nothing}
-use Rattle.dg_volume.specs.Volumes.{shape_of}
 
 pub returns : goal.returns
 returns g c =
@@ -17,7 +15,7 @@ returns g c =
       sound = into.leaves.well;
       shape_is = into.leaves.shape ∙ made.shape_is;
       tells = λ q told. made.tells q (into.leaves.tells q told);
-      own = own_then g.R.Rack c.args.shape (shape_of c.in_ok-volume.volume) _ _ _ made.shape_is made.own (own_or_blank g.R.Rack (shape_of c.in_ok-volume.volume).b _ _ into.leaves.own);
+      own = subst (λ r. MadeBelow g.R.Rack IsBlankBelow c.args.shape.b c.args.rack r) (sym into.rack_is) made.own;
       same_rack = into.leaves.same_rack ∙ made.same_rack;
       state = made.state;
       blank = made.blank;

@@ -6,6 +6,8 @@ use Rattle.dg_store.proofs.Refills.{replaced_changed, replaced_long}
 use Rattle.dg_store.proofs.Parts.{part_of}
 use Rattle.dg_store.proofs.Rows.{lost_at}
 use Rattle.dg_store.proofs.Sound.{row_of, sound_of}
+use Rattle.dg_store.specs.Leaves.{IsBlankBelow, IsCallOrBlankBelow}
+use Rattle.dg_store.specs.ReadLaws.{blank_or_call, own_such}
 use Rattle.dg_store.proofs.store.Store.replace.Goals as goal
 
 pub replace-requires : goal.replace-requires
@@ -39,7 +41,8 @@ returns g c =
           (λ quiet. ap g.R.Rack.bytes (k.quiet quiet)) q
           (λ stands. s.long q (λ out. stands (sym (changed.was q here) ∙ out))) serving))
           s.built.block s.built.given_up;
-      stays = record { shape = refl; stays = stays_of g.R.Rack g.met.R.Rack.after leaves; own = own_blanked g.R.Rack part.pair.number_is c.requires.boundary leaves };
+      stays = record { shape = refl; stays = stays_of g.R.Rack g.met.R.Rack.after leaves;
+          own = own_such g.R.Rack IsBlankBelow IsCallOrBlankBelow blank_or_call _ _ _ (own_blanked g.R.Rack part.pair.number_is c.requires.boundary leaves) };
       keeps = k.keeps;
       faulty = fell_changed c.args.boundary _ _ _ _ changed _ _ (λ q off. leaves.other_faults q (λ here. off (here ∙ part.pair.number_is))) leaves.fell;
       table = search rules;
