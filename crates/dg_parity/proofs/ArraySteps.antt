@@ -265,7 +265,7 @@ look_facts rack q n result groups now t u fails = record {
 -- it is made anew
 pub blank_facts : {S T E : Type 0} (rack : Ghosts S) (q : ℕ) (result : Result T E) (old new : Grouped S) → OnOk result (serves new.groups q ≡ true)
     → ((s : ℕ) → q ≡ 2 * s → s < length old.groups → is_unmade (slice_get new.groups s) ≡ false)
-    → ((s j : ℕ) → q ≡ 2 * s → out_of (slice_get new.groups s) j ≡ true
+    → ((s j : ℕ) → q ≡ 2 * s → is_unmade (slice_get old.groups s) ≡ true → out_of (slice_get new.groups s) j ≡ true
     → Rose (faults_of (rack.counts old.rack) (slice_get old.groups s) j) (faults_of (rack.counts new.rack) (slice_get new.groups s) j))
     → CallFacts rack (blanks q) q result old new
 blank_facts rack q result old new alive made rose = record {
@@ -273,7 +273,7 @@ blank_facts rack q result old new alive made rose = record {
   down = λ differs. absurd (differs refl);
   fails = λ differs. absurd (differs refl);
   idle = λ s at lt unmade. absurd (false≢true (sym (made s at lt) ∙ unmade));
-  anew = λ s j at unmade was out. rose s j at out;
+  anew = λ s j at unmade was out. rose s j at unmade out;
 }
 
 -- ---- an extension that failed

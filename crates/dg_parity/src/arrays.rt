@@ -150,6 +150,7 @@ impl<R: Rack> Rack for GroupRack<R> {
         ensures goes_on { GoesOn R.Rack self.old.groups self.new.groups self.old.rack self.new.rack }
         ensures alive { OnOk result (serves self.new.groups member ≡ true) }
         ensures fails { OnErr result (serves self.new.groups member ≡ false) }
+        ensures fallen { is_fallen (group_at self.old.groups member) ≡ true → (self.new.groups ≡ self.old.groups) × (self.new.rack ≡ self.old.rack) }
     {
         let result = blank_at(&mut self.groups, &mut self.rack, member, length);
         self.tally.note_write(member, result.is_err());

@@ -17,7 +17,7 @@ use crate::returns::mend;
 use crate::told::{read, write};
 use dg_io::{DropAnswer, Failed, MendAnswer, Rack};
 
-/// Makes the group of a member anew.
+/// Makes the group of a member anew. One of which two disks went out stays so, and no call is made.
 pub(crate) fn blank_at<R: Rack>(
     groups: &mut Vec<Group>,
     rack: &mut R,
@@ -33,9 +33,11 @@ pub(crate) fn blank_at<R: Rack>(
     ensures size { OnOk result (size_at groups.new.items member ≡ size) }
     ensures ok { OnOk result (Told (IsZeros size) (told_at R.Rack groups.old.items rack.old member) (told_at R.Rack groups.new.items rack.new member)) }
     ensures made { (s : ℕ) → member ≡ 2 * s → s < length groups.old.items → is_unmade (slice_get groups.new.items s) ≡ false }
-    ensures anew { (s j : ℕ) → member ≡ 2 * s → out_of (slice_get groups.new.items s) j ≡ true
+    ensures fallen { is_fallen (group_at groups.old.items member) ≡ true → (groups.new.items ≡ groups.old.items) × (rack.new ≡ rack.old) }
+    ensures anew { (s j : ℕ) → member ≡ 2 * s → is_unmade (slice_get groups.old.items s) ≡ true → out_of (slice_get groups.new.items s) j ≡ true
         → Rose (faults_of (R.counts rack.old) (slice_get groups.old.items s) j) (faults_of (R.counts rack.new) (slice_get groups.new.items s) j) }
 {
+    find_at(groups, member)?;
     if member % 2 != 0 {
         return Err(Failed);
     }

@@ -87,7 +87,7 @@ returns-then-not-blank-clause-made g c s on lt =
     made-at h c.blank.ensures.silent s on
 
 pub returns-then-not-blank-clause-anew : goal.returns-then-not-blank-clause-anew
-returns-then-not-blank-clause-anew g c s j on out =
+returns-then-not-blank-clause-anew g c s j on unmade out =
     let h =
     anew-call g.R.Rack c.args.member c.args.groups.now.len c.args.groups.now.items c.in-Some.group.now c.blank.new.group c.args.rack.now c.blank.new.rack c.if-member-ne0.false c.requires.kept
     c.args.groups.now.ok.0 (c.in-Some.ensures.variant.0 refl) c.in-Some.ensures.value c.blank.ensures.still c.blank.ensures.kept
@@ -103,7 +103,7 @@ returns-clause-made g c s on lt =
     made-at h c.blank.ensures.silent s on
 
 pub returns-clause-anew : goal.returns-clause-anew
-returns-clause-anew g c s j on out =
+returns-clause-anew g c s j on unmade out =
     let h =
     anew-call g.R.Rack c.args.member c.args.groups.now.len c.args.groups.now.items c.in-Some.group.now c.blank.new.group c.args.rack.now c.blank.new.rack c.if-member-ne0.false c.requires.kept
     c.args.groups.now.ok.0 (c.in-Some.ensures.variant.0 refl) c.in-Some.ensures.value c.blank.ensures.still c.blank.ensures.kept
