@@ -60,6 +60,7 @@ pub record CallFacts {S T E : Type 0} (rack : Ghosts S) (call : RackCall) (q : �
   pub stands : OnOk result (serves old.groups q ≡ true → serves new.groups q ≡ true)
   pub down : IsNoBlankOn q call → serves old.groups q ≡ false → serves new.groups q ≡ false
   pub fails : IsNoBlankOn q call → tells_of rack new.rack (group_at new.groups q) → OnErr result (serves new.groups q ≡ false)
+  pub stays : is_fallen (group_at old.groups q) ≡ true → is_fallen (group_at new.groups q) ≡ true
   pub idle : (s : ℕ) → q ≡ 2 * s → s < length old.groups → is_unmade (slice_get new.groups s) ≡ true → OnErr result ⊥
   pub anew : (s j : ℕ) → q ≡ 2 * s → is_unmade (slice_get old.groups s) ≡ true → is_unmade (slice_get new.groups s) ≡ false → out_of (slice_get new.groups s) j ≡ true
       → Rose (faults_of (rack.counts old.rack) (slice_get old.groups s) j) (faults_of (rack.counts new.rack) (slice_get new.groups s) j)
@@ -129,6 +130,12 @@ module _ {S T E : Type 0} (rack : Ghosts S) (call : RackCall) (q : ℕ) (on : me
         (facts.fails (subst (λ (k : ℕ). IsNoBlankOn k call) e plainly) (subst (λ (k : ℕ). tells_of rack new.rack (group_at new.groups k)) e tell)))
   ]
 
+  stays-on : (r : ℕ) → is_fallen (group_at old.groups r) ≡ true → is_fallen (group_at new.groups r) ≡ true
+  stays-on r fell = elim (cases_eq r q) [
+    | inr far ↦ ap is_fallen (steps.alike r far) ∙ fell
+    | inl e ↦ subst (λ (k : ℕ). is_fallen (group_at new.groups k) ≡ true) (sym e) (facts.stays (subst (λ (k : ℕ). is_fallen (group_at old.groups k) ≡ true) e fell))
+  ]
+
   idles : (s : ℕ) → s < length old.groups → is_unmade (slice_get new.groups s) ≡ true → slice_index new.tally.faults (2 * s) ≡ slice_index old.tally.faults (2 * s)
   idles s lt unmade = elim (cases_eq (2 * s) q) [
     | inr far ↦ tally.others (2 * s) far
@@ -176,6 +183,7 @@ module _ {S T E : Type 0} (rack : Ghosts S) (call : RackCall) (q : ℕ) (on : me
     stops = stops;
     down = λ r each. downs r each.0;
     fails = λ r each. falls r each.0;
+    stays = stays-on;
     idle = λ s lt unmade. (steps.unmade s unmade, idles s lt unmade);
     anew = anews;
   }
@@ -224,6 +232,7 @@ module _ {S T E : Type 0} (rack : Ghosts S) (call : RackCall) (q : ℕ) (result 
     stands = map_ok result (serves new.groups q ≡ true) (serves old.groups q ≡ true → serves new.groups q ≡ true) (λ h was. h) alive;
     down = λ any out. absurd (false≢true (sym out ∙ stand));
     fails = λ any tell. fails tell;
+    stays = λ fell. absurd (false≢true (sym (fallen-down (group_at old.groups q) fell) ∙ stand));
     idle = λ s at lt unmade. absurd (unserved (slice_get old.groups s) (steps.unmade s unmade) (standing s at));
     anew = λ s j at unmade made out. absurd (unserved (slice_get old.groups s) unmade (standing s at));
   } where
@@ -257,6 +266,7 @@ look_facts rack q n result groups now t u fails = record {
   stands = ok_on result (serves groups q ≡ true → serves groups q ≡ true) (λ h. h);
   down = λ any out. out;
   fails = λ any tell. map_err result (is_fallen (group_at groups q) ≡ true) (serves groups q ≡ false) (fallen-down (group_at groups q)) fails;
+  stays = λ fell. fell;
   idle = λ s at lt unmade. map_err result (is_fallen (group_at groups q) ≡ true) ⊥
       (λ fell. fallen-made (slice_get groups s) (sym (ap is_fallen (member_group groups s)) ∙ subst (λ (k : ℕ). is_fallen (group_at groups k) ≡ true) at fell) unmade) fails;
   anew = λ s j at unmade made out. absurd (false≢true (sym made ∙ unmade));
@@ -267,11 +277,13 @@ pub blank_facts : {S T E : Type 0} (rack : Ghosts S) (q : ℕ) (result : Result 
     → ((s : ℕ) → q ≡ 2 * s → s < length old.groups → is_unmade (slice_get new.groups s) ≡ false)
     → ((s j : ℕ) → q ≡ 2 * s → is_unmade (slice_get old.groups s) ≡ true → out_of (slice_get new.groups s) j ≡ true
     → Rose (faults_of (rack.counts old.rack) (slice_get old.groups s) j) (faults_of (rack.counts new.rack) (slice_get new.groups s) j))
+    → (is_fallen (group_at old.groups q) ≡ true → (new.groups ≡ old.groups) × (new.rack ≡ old.rack))
     → CallFacts rack (blanks q) q result old new
-blank_facts rack q result old new alive made rose = record {
+blank_facts rack q result old new alive made rose idle = record {
   stands = map_ok result (serves new.groups q ≡ true) (serves old.groups q ≡ true → serves new.groups q ≡ true) (λ h was. h) alive;
   down = λ differs. absurd (differs refl);
   fails = λ differs. absurd (differs refl);
+  stays = λ fell. subst (λ (l : List Group). is_fallen (group_at l q) ≡ true) (sym (idle fell).0) fell;
   idle = λ s at lt unmade. absurd (false≢true (sym (made s at lt) ∙ unmade));
   anew = λ s j at unmade was out. rose s j at unmade out;
 }

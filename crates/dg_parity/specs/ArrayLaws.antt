@@ -46,6 +46,7 @@ module _ {R : Type 0} (rack : Ghosts R) where
     stops = λ q stood falls. absurd (false≢true (sym falls ∙ stood));
     down = λ q each out. out;
     fails = λ q each tell more. absurd (omega (arith, more));
+    stays = λ q fell. fell;
     idle = λ t lt unmade. (unmade, refl);
     anew = λ t j unmade made out. absurd (false≢true (sym made ∙ unmade));
   }
@@ -96,6 +97,7 @@ module _ {R : Type 0} (rack : Ghosts R) where
       stops = both_stops;
       down = λ q each out. second.down q (each_back (IsNoBlankOn q) x y each) (first.down q (each_front (IsNoBlankOn q) x y each) out);
       fails = both_fails;
+      stays = λ q fell. second.stays q (first.stays q fell);
       idle = both_idle;
       anew = both_anew;
     }

@@ -244,6 +244,8 @@ pub record GroupedMade {R : Type 0} (rack : Ghosts R) (old : Grouped R) (made : 
   -- Where it isn't made anew: one that doesn't stand goes on so, and its count rises only where it doesn't stand at the end, as long as it tells.
   pub down : (q : ℕ) → Each (IsNoBlankOn q) made → grouped_stands rack old q ≡ false → grouped_stands rack new q ≡ false
   pub fails : (q : ℕ) → Each (IsNoBlankOn q) made → grouped_tells rack new q → (grouped_counts rack old).faults q < (grouped_counts rack new).faults q → grouped_stands rack new q ≡ false
+  -- a group of which two disks went out doesn't come back
+  pub stays : (q : ℕ) → is_fallen (group_at old.groups q) ≡ true → is_fallen (group_at new.groups q) ≡ true
   -- A group that isn't made yet had no failed call; and of one that was made by these calls each disk that is out has failed in them.
   pub idle : (s : ℕ) → s < length old.groups → is_unmade (slice_get new.groups s) ≡ true
       → (is_unmade (slice_get old.groups s) ≡ true) × ((grouped_counts rack new).faults (2 * s) ≡ (grouped_counts rack old).faults (2 * s))

@@ -27,7 +27,7 @@ returns-clause-leaves g c =
     let r = c.blank_at-result.result in
     let old : Grouped g.row.R.Denot = record { rack = c.self.inside.rack; width = c.self.inside.width; groups = c.self.inside.groups.items; tally = c.self.inside.tally } in
     let new : Grouped g.row.R.Denot = record { rack = c.blank_at-result.new.rack; width = c.self.inside.width; groups = c.blank_at-result.new.groups.items; tally = c.note_write.new.self } in
-    subst (λ (s : Grouped g.row.R.Denot). Leaves (grouped_words g.R.Rack) m r s new) c.self.view_is (leaves_grouped g.R.Rack (blanks m) m refl r old new c.blank_at-result.ensures.steps (tally_of m r c.is_err.result c.self.inside.tally c.note_write.new.self c.is_err.ensures.value c.note_write.ensures.notes) (blank_facts g.R.Rack m r old new c.blank_at-result.ensures.alive c.blank_at-result.ensures.made c.blank_at-result.ensures.anew))
+    subst (λ (s : Grouped g.row.R.Denot). Leaves (grouped_words g.R.Rack) m r s new) c.self.view_is (leaves_grouped g.R.Rack (blanks m) m refl r old new c.blank_at-result.ensures.steps (tally_of m r c.is_err.result c.self.inside.tally c.note_write.new.self c.is_err.ensures.value c.note_write.ensures.notes) (blank_facts g.R.Rack m r old new c.blank_at-result.ensures.alive c.blank_at-result.ensures.made c.blank_at-result.ensures.anew c.blank_at-result.ensures.fallen))
 
 pub returns-clause-made : goal.returns-clause-made
 returns-clause-made g c =
@@ -36,7 +36,7 @@ returns-clause-made g c =
     let old : Grouped g.row.R.Denot = record { rack = c.self.inside.rack; width = c.self.inside.width; groups = c.self.inside.groups.items; tally = c.self.inside.tally } in
     let new : Grouped g.row.R.Denot = record { rack = c.blank_at-result.new.rack; width = c.self.inside.width; groups = c.blank_at-result.new.groups.items; tally = c.note_write.new.self } in
     subst (λ (s : Grouped g.row.R.Denot). GroupedMade g.R.Rack s (blanks m ∷ []) new) c.self.view_is
-    (made_grouped g.R.Rack (blanks m) m refl r old new c.blank_at-result.ensures.steps (tally_of m r c.is_err.result c.self.inside.tally c.note_write.new.self c.is_err.ensures.value c.note_write.ensures.notes) (blank_facts g.R.Rack m r old new c.blank_at-result.ensures.alive c.blank_at-result.ensures.made c.blank_at-result.ensures.anew) c.self.invariant.widths refl
+    (made_grouped g.R.Rack (blanks m) m refl r old new c.blank_at-result.ensures.steps (tally_of m r c.is_err.result c.self.inside.tally c.note_write.new.self c.is_err.ensures.value c.note_write.ensures.notes) (blank_facts g.R.Rack m r old new c.blank_at-result.ensures.alive c.blank_at-result.ensures.made c.blank_at-result.ensures.anew c.blank_at-result.ensures.fallen) c.self.invariant.widths refl
     (blank_back g.R.Rack m c.self.inside.groups.items c.blank_at-result.new.groups.items c.self.inside.rack c.blank_at-result.new.rack c.blank_at-result.ensures.steps))
 
 pub returns-clause-writes : goal.returns-clause-writes
